@@ -1,0 +1,8 @@
+use Rattle.std.proofs.Common.{◌≤◌, ◌+◌, ◌-◌, vec_len}
+use Rattle.jats_io.proofs.folder_store.read_bytes.Given as goal
+
+abbrev pub invariant-pieces : goal.invariant-pieces
+invariant-pieces g l = vec_len l.bytes ≤ l.limit + 1
+
+abbrev pub decreases-pieces : goal.decreases-pieces
+decreases-pieces g l = l.limit + 1 - vec_len l.bytes

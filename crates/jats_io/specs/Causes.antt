@@ -1,0 +1,15 @@
+-- Counts that rise where something goes wrong.
+use Rattle.std.specs.Prelude.{ℕ, ◌+◌, ◌-◌, ◌^◌, ◌≤◌, min}
+
+-- the count once it is raised: one more, or still the last value of a counter
+abbrev pub raised : ℕ → ℕ
+raised count = min (count + 1) (2 ^ 64 - 1)
+
+-- the count is greater than before, or stands at the last value of a counter
+abbrev pub Rose : ℕ → ℕ → Type 0
+Rose before now = raised before ≤ now
+
+-- the count has not fallen, and has risen where this happened
+pub record HasCause (before now : ℕ) (happened : Type 0) : Type 0 where
+  pub later : before ≤ now
+  pub risen : happened → Rose before now

@@ -1,0 +1,85 @@
+-- Tests of names that the comparison makes.
+use Rattle.std.specs.Prelude.{◌≡◌, ℕ, Bool, true, false, not, ◌||◌, List, ◌∷◌, ◌++◌, Option, Some, None, is_some, IsTrue, slice_get}
+use Rattle.std.specs.List.{list_all, AllByRecursion}
+use Rattle.jats_chars.specs.Names.{is_name}
+use Rattle.content_models.specs.declared.Content.{Content}
+use Rattle.content_models.specs.declared.Content.TheVariants.{Empty, Mixed}
+use Rattle.content_models.specs.Derives.{among}
+use Rattle.decl_set.specs.Declarations.{Declarations, Element, content_in}
+use Rattle.decl_set.specs.Breaks.{Breaks}
+use Rattle.decl_set.specs.Breaks.{Cause}
+
+-- whether the set declares the element
+abbrev pub declared : Declarations → List ℕ → Bool
+declared set e = is_some (content_in set e)
+
+-- whether the content lists the name
+abbrev pub holds_name : Content → List ℕ → Bool
+holds_name Empty name = false
+holds_name (Mixed listed) name = among listed name
+
+-- the content has the name, or the first set does not declare it
+abbrev pub fits_name : Declarations → Content → List ℕ → Bool
+fits_name first content name = not (declared first name) || holds_name content name
+
+-- the names have this one, or the first set does not declare it
+abbrev pub led : Declarations → List (List ℕ) → List ℕ → Bool
+led first names name = not (declared first name) || among names name
+
+-- the names have all children of an element with this content
+abbrev pub closes : Declarations → List (List ℕ) → Option Content → Bool
+closes first names None = true
+closes first names (Some Empty) = true
+closes first names (Some (Mixed listed)) = list_all (led first names) listed
+
+-- the names have all children of each of them
+abbrev pub is_closed : Declarations → List (List ℕ) → Bool
+is_closed first names = list_all (λ e. closes first names (content_in first e)) names
+
+-- a listed name that the first set declares
+pub record Listed (first : Declarations) (listed : List (List ℕ)) (name : List ℕ) : Type 0 where
+  pub at : IsTrue (among listed name)
+  pub some : IsTrue (declared first name)
+  pub named : IsTrue (is_name name)
+
+-- a child of e that is not among the names
+pub record NewChild (first : Declarations) (names : List (List ℕ)) (e name : List ℕ) : Type 0 where
+  pub listed : List (List ℕ)
+  pub content : content_in first e ≡ Some (Mixed listed)
+  pub child : Listed first listed name
+  pub new : among names name ≡ false
+
+-- a child of one of the names that is not among them
+pub record Grows (first : Declarations) (names : List (List ℕ)) (name : List ℕ) : Type 0 where
+  pub parent : List ℕ
+  pub here : IsTrue (among names parent)
+  pub child : NewChild first names parent name
+
+-- no cause breaks the element
+abbrev pub IsFine : Declarations → Declarations → List ℕ → Type 0
+IsFine first second e = (k : Cause) → Breaks first second e k → ⊥
+
+-- one of the names does not break
+abbrev pub IsFineNamed : Declarations → Declarations → List (List ℕ) → Element → Type 0
+IsFineNamed first second names e = IsTrue (among names e.0) → IsFine first second e.0
+
+-- the first of the names, in order of declaration, that breaks
+pub record FirstBreak (first second : Declarations) (names : List (List ℕ)) (name : List ℕ) (cause : Cause) : Type 0 where
+  pub before : List Element
+  pub declared : Content
+  pub after : List Element
+  pub place : first.elements ≡ before ++ (name, declared) ∷ after
+  pub fine : AllByRecursion (IsFineNamed first second names) before
+  pub here : IsTrue (among names name)
+  pub breaks : Breaks first second name cause
+
+-- the element at this place does not break
+abbrev pub FineAt : Declarations → Declarations → List (List ℕ) → ℕ → Type 0
+FineAt first second names at = (e : Element) → slice_get first.elements at ≡ Some e → IsFineNamed first second names e
+
+-- the element at this place is one of the names, and breaks
+pub record BreakAt (first second : Declarations) (names : List (List ℕ)) (at : ℕ) (name : List ℕ) (k : Cause) : Type 0 where
+  pub declared : Content
+  pub place : slice_get first.elements at ≡ Some (name, declared)
+  pub here : IsTrue (among names name)
+  pub breaks : Breaks first second name k

@@ -1,0 +1,9 @@
+pub mod Checks
+pub mod Law
+pub mod Lines
+pub mod Outcomes
+pub mod Output
+pub mod Reached
+pub mod Reading
+pub mod Runs
+pub mod Verdicts

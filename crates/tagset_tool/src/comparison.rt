@@ -1,0 +1,246 @@
+//! The comparison of two sets.
+
+ghost use Rattle.std.specs.Prelude.{◌≡◌, IfOk, IsSome, Some, MatchOption, IsTrue, not, false};
+ghost use Rattle.std.specs.List.{list_all, AllByRecursion};
+ghost use Rattle.jats_chars.specs.Names.{is_name};
+ghost use Rattle.content_models.specs.Derives.{among};
+ghost use Rattle.tagset_tool.specs.Checks as spec;
+ghost use Rattle.tagset_tool.specs.Reached.{IsReached};
+ghost use Rattle.decl_set.specs.Declarations.{content_in};
+ghost use Rattle.decl_set.specs.Validity.{HasDocument};
+ghost use Rattle.decl_set.specs.Breaks.{Cause as Reason, BreaksBy, Breaks};
+ghost use Rattle.tagset_tool.specs.Verdicts.{IsVerdict, meant};
+
+use content_models::Content;
+use decl_set::DeclSet;
+use jats_chars::{Name, NameList, NoMemory};
+use std::alloc::Global;
+
+/// Why an element of the first set is not one of the second.
+#[derive(Clone, Copy, Debug, PartialEq, Eq)]
+pub enum Cause {
+    Undeclared,
+    Content,
+    Text,
+}
+
+#[derive(Debug, Drop)]
+pub struct BrokenDecl {
+    pub element: Name,
+    pub cause: Cause,
+}
+
+#[derive(Debug, Drop)]
+pub enum Verdict {
+    Subset,
+    /// There is a separating document, and none without elements.
+    Above(BrokenDecl),
+}
+
+fn is_among(names: &[Name], name: &Name) -> bool
+    ensures { result ≡ among names.now name.now }
+{
+    names.iter().any(|n| *name == *n)
+}
+
+fn is_declared(set: &DeclSet, name: &Name) -> bool
+    ensures { result ≡ spec.declared set.now name.now }
+{
+    set.content_of(name).is_some()
+}
+
+fn holds_name(content: &Content, name: &Name) -> bool
+    ensures { result ≡ spec.holds_name content.now name.now }
+{
+    match content {
+        Content::Empty => false,
+        Content::Mixed(listed) => is_among(listed.as_slice(), name),
+    }
+}
+
+fn is_uncovered(first: &DeclSet, content: &Content, name: &Name) -> bool
+    ensures value { result ≡ not (spec.fits_name first.now content.now name.now) }
+    ensures named { IsTrue (is_name name.now) }
+    ensures some { IsTrue result → IsTrue (spec.declared first.now name.now) }
+{
+    let _text = name.text();
+    is_declared(first, name) && !holds_name(content, name)
+}
+
+/// The first listed name that the first set declares and the content lacks.
+fn uncovered<'a>(first: &DeclSet, listed: &'a [Name], content: &Content) -> Option<&'a Name>
+    ensures { MatchOption result (IsTrue (list_all (spec.fits_name first.now content.now) listed.now)) (λ n. spec.Listed first.now listed.now n.now × (spec.fits_name first.now content.now n.now ≡ false)) }
+{
+    for n in listed {
+        if is_uncovered(first, content, n) {
+            return Some(n);
+        }
+    }
+    None
+}
+
+/// Why an element with the one content in the first set, and the other in the second, breaks.
+fn content_cause(first: &DeclSet, one: &Content, other: &Content) -> Option<Cause>
+    ensures { MatchOption result ((k : Reason) → BreaksBy first.now (Some one.now) (Some other.now) k → ⊥) (λ k. BreaksBy first.now (Some one.now) (Some other.now) (meant k)) }
+{
+    match one {
+        Content::Empty => None,
+        Content::Mixed(listed) => match uncovered(first, listed.as_slice(), other) {
+            Some(_) => Some(Cause::Content),
+            None => match other {
+                Content::Empty => Some(Cause::Text),
+                Content::Mixed(_) => None,
+            },
+        },
+    }
+}
+
+fn cause_of(first: &DeclSet, second: &DeclSet, name: &Name) -> Option<Cause>
+    ensures { MatchOption result (spec.IsFine first.now second.now name.now) (λ k. Breaks first.now second.now name.now (meant k)) }
+{
+    match first.content_of(name) {
+        None => None,
+        Some(one) => match second.content_of(name) {
+            None => Some(Cause::Undeclared),
+            Some(other) => content_cause(first, one, other),
+        },
+    }
+}
+
+fn is_new(first: &DeclSet, names: &NameList, name: &Name) -> bool
+    ensures value { result ≡ not (spec.led first.now names.now name.now) }
+    ensures named { IsTrue (is_name name.now) }
+    ensures some { IsTrue result → IsTrue (spec.declared first.now name.now) }
+    ensures new { IsTrue result → among names.now name.now ≡ false }
+{
+    let _text = name.text();
+    is_declared(first, name) && !is_among(names.as_slice(), name)
+}
+
+/// The first listed name that the first set declares and that is not among the names.
+fn new_listed<'a>(first: &DeclSet, names: &NameList, listed: &'a [Name]) -> Option<&'a Name>
+    ensures { MatchOption result (IsTrue (list_all (spec.led first.now names.now) listed.now)) (λ n. spec.Listed first.now listed.now n.now × (among names.now n.now ≡ false)) }
+{
+    for n in listed {
+        if is_new(first, names, n) {
+            return Some(n);
+        }
+    }
+    None
+}
+
+fn new_child<'a>(first: &'a DeclSet, names: &NameList, parent: &Name) -> Option<&'a Name>
+    ensures { MatchOption result (IsTrue (spec.closes first.now names.now (content_in first.now parent.now))) (λ n. spec.NewChild first.now names.now parent.now n.now) }
+{
+    match first.content_of(parent) {
+        None => None,
+        Some(content) => match content {
+            Content::Empty => None,
+            Content::Mixed(listed) => new_listed(first, names, listed.as_slice()),
+        },
+    }
+}
+
+/// A child of one of the names that is not among them.
+fn find_new<'a>(first: &'a DeclSet, names: &NameList) -> Option<&'a Name>
+    ensures { MatchOption result (IsTrue (spec.is_closed first.now names.now)) (λ n. spec.Grows first.now names.now n.now) }
+{
+    for parent in names.as_slice() {
+        if let Some(n) = new_child(first, names, parent) {
+            return Some(n);
+        }
+    }
+    None
+}
+
+/// The elements that stand in documents from the root.
+fn useful_names(alloc: Global, first: &DeclSet, root: &Name) -> Result<NameList, NoMemory>
+    ensures reached { IfOk result (λ names. AllByRecursion (IsReached first.now root.now) names) }
+    ensures closed { IfOk result (λ names. IsTrue (spec.is_closed first.now names)) }
+    ensures root { IfOk result (λ names. IsTrue (among names root.now)) }
+{
+    let mut names = NameList::new(alloc);
+    let _text = root.text();
+    names.push(root.copy(alloc)?)?;
+    while let Some(n) = find_new(first, &names) {
+        names.push(n.copy(alloc)?)?;
+    }
+    Ok(names)
+}
+
+/// Why the name breaks, where it is one of the names.
+fn named_cause(first: &DeclSet, second: &DeclSet, names: &NameList, name: &Name) -> Option<Cause>
+    ensures { MatchOption result (IsTrue (among names.now name.now) → spec.IsFine first.now second.now name.now) (λ k. IsTrue (among names.now name.now) × Breaks first.now second.now name.now (meant k)) }
+{
+    if is_among(names.as_slice(), name) {
+        cause_of(first, second, name)
+    } else {
+        None
+    }
+}
+
+/// Why the element at this place breaks, where it is one of the names.
+fn break_at<'a>(
+    first: &'a DeclSet,
+    second: &DeclSet,
+    names: &NameList,
+    at: usize,
+) -> Option<(&'a Name, Cause)>
+    ensures { MatchOption result (spec.FineAt first.now second.now names.now at) (λ p. spec.BreakAt first.now second.now names.now at p.0.now (meant p.1)) }
+{
+    match first.name_at(at) {
+        None => None,
+        Some(name) => match named_cause(first, second, names, name) {
+            None => None,
+            Some(cause) => Some((name, cause)),
+        },
+    }
+}
+
+/// The first of the names, in order of declaration, that breaks.
+fn first_broken(
+    alloc: Global,
+    first: &DeclSet,
+    second: &DeclSet,
+    names: &NameList,
+) -> Result<Option<BrokenDecl>, NoMemory>
+    ensures { IfOk result (λ o. MatchOption o (AllByRecursion (spec.IsFineNamed first.now second.now names.now) first.now.elements) (λ d. spec.FirstBreak first.now second.now names.now d.element (meant d.cause))) }
+{
+    for i in 0..first.count() {
+        if let Some((name, cause)) = break_at(first, second, names, i) {
+            let element = name.copy(alloc)?;
+            return Ok(Some(BrokenDecl { element, cause }));
+        }
+    }
+    Ok(None)
+}
+
+/// Whether each document of the first is one of the second.
+pub fn compare(
+    alloc: Global,
+    first: &DeclSet,
+    second: &DeclSet,
+    root: &Name,
+) -> Result<Verdict, NoMemory>
+    requires { IsSome (content_in first.now root.now) }
+    ensures verdict { IfOk result (λ v. IsVerdict first.now second.now root.now v) }
+    ensures document { HasDocument first.now root.now }
+{
+    let _text = root.text();
+    verdict_of(alloc, first, second, root)
+}
+
+fn verdict_of(
+    alloc: Global,
+    first: &DeclSet,
+    second: &DeclSet,
+    root: &Name,
+) -> Result<Verdict, NoMemory>
+    ensures { IfOk result (λ v. IsVerdict first.now second.now root.now v) }
+{
+    let names = useful_names(alloc, first, root)?;
+    match first_broken(alloc, first, second, &names)? {
+        None => Ok(Verdict::Subset),
+        Some(broken) => Ok(Verdict::Above(broken)),
+    }
+}
