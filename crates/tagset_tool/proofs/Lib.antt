@@ -5,4 +5,6 @@ pub mod Found
 pub mod Documents
 pub mod Names
 pub mod Breaks
+pub mod OneOutput
 pub mod Places
+pub mod SoundRuns

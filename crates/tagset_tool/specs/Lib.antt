@@ -6,4 +6,5 @@ pub mod Output
 pub mod Reached
 pub mod Reading
 pub mod Runs
+pub mod Sound
 pub mod Verdicts

@@ -1,5 +1,5 @@
 -- What a run leaves.
-use Rattle.std.specs.Prelude.{◌≡◌, ℕ, ◌≤◌, List, ◌++◌, Option, Some, None, Result, Ok, Err, Bool, IsTrue, codes, nat_eq}
+use Rattle.std.specs.Prelude.{◌≡◌, ℕ, ◌≤◌, List, ◌++◌, Option, Some, None, Result, Ok, Err, Bool, IsTrue, IsSome, ◌⊎◌, codes, nat_eq}
 use Rattle.std.specs.List.{starts_with}
 use Rattle.jats_io.specs.Writes.{Appends, Appended}
 use Rattle.tagset_tool.specs.declared.read.ReadFault.{ReadFault}
@@ -7,7 +7,7 @@ use Rattle.tagset_tool.specs.declared.read.ReadFault.TheVariants as fault
 use Rattle.tagset_tool.specs.declared.top.Answer.{Answer}
 use Rattle.tagset_tool.specs.declared.top.Stop.{Stop}
 use Rattle.tagset_tool.specs.declared.top.Stop.TheVariants as stop
-use Rattle.tagset_tool.specs.Output.{Files, IsOutput, Refuses}
+use Rattle.tagset_tool.specs.Output.{Files, asked, IsOutput, Refuses}
 
 abbrev pub IsLoadFailed : {T : Type 0} → Result T Stop → Type 0
 IsLoadFailed result = result ≡ Err stop.LoadFailed
@@ -52,3 +52,7 @@ pub record Cut (words : List (List ℕ)) (files : Files) (before now : Option (L
 pub record Runs (words : List (List ℕ)) (files : Files) (before now : Option (List ℕ)) (status : ℕ) : Type 0 where
   pub whole : status ≤ 3 → Whole words files before now status
   pub cut : status ≡ 5 → Cut words files before now
+
+-- words of a form, where no count rose, have an answer, unless memory runs out
+abbrev pub IsAnswered : List (List ℕ) → Type 0 → Type 0 → ℕ → Type 0
+IsAnswered words load write status = IsSome (asked words) → (load → ⊥) → (write → ⊥) → (status ≤ 2) ⊎ (status ≡ 6)

@@ -12,10 +12,12 @@ mod lines;
 mod read;
 mod rows;
 mod scan;
+mod sound;
 mod top;
 
 pub use comparison::{BrokenDecl, Cause, Verdict, compare};
 pub use laws::{output_law, subset_law};
 pub use lines::Refusal;
 pub use read::{ReadFault, read_set};
+pub use sound::run_sound;
 pub use top::run;

@@ -5,7 +5,7 @@ ghost use Rattle.jats_io.specs.Causes.{HasCause, Rose};
 ghost use Rattle.tagset_tool.specs.Output as spec;
 ghost use Rattle.tagset_tool.specs.Reading.{set_of};
 ghost use Rattle.decl_set.specs.Declarations.{content_in};
-ghost use Rattle.tagset_tool.specs.Runs.{IsLoadFailed, AnswersAbsence, WritesAbsence, StopsAs, Runs};
+ghost use Rattle.tagset_tool.specs.Runs.{IsAnswered, IsLoadFailed, AnswersAbsence, WritesAbsence, StopsAs, Runs};
 
 use crate::comparison::{BrokenDecl, Cause, Verdict, compare};
 use crate::lines::{Refusal, refusal_line, shown};
@@ -204,6 +204,7 @@ pub fn run<S: Store, K: Sink>(alloc: Global, words: &[Text], store: &mut S, sink
     ensures absent { HasCause (S.absences store.old) (S.absences store.new) (WritesAbsence (K.written sink.old) (K.written sink.new)) }
     ensures write { HasCause (K.faults sink.old) (K.faults sink.new) (result ≡ 5) }
     ensures usage { result ≤ 3 → (result ≡ 3) ↔ (spec.asked words.now ≡ None) }
+    ensures complete { IsAnswered words.now (Rose (S.faults store.old) (S.faults store.new)) (Rose (K.faults sink.old) (K.faults sink.new)) result }
     ensures told { IfSome (S.holds store.old) (λ files. Runs words.now files (K.written sink.old) (K.written sink.new) result) }
     ensures nothing { (result ≡ 4) ⊎ (result ≡ 6) → K.written sink.new ≡ K.written sink.old }
 {
