@@ -8,7 +8,7 @@ use Rattle.std.specs.Map.{lookup}
 use Rattle.content_models.specs.declared.Content.{Content}
 use Rattle.content_models.specs.Derives.{among}
 use Rattle.decl_set.specs.Declarations.{Declarations, Element, content_in}
-use Rattle.tagset_tool.specs.Checks.{declared, led, closes, is_closed, Grows}
+use Rattle.tagset_tool.specs.Checks.{declared, led, closes, is_closed, unmarked}
 use Rattle.tagset_tool.specs.Reached.{IsReached}
 use Rattle.tagset_tool.proofs.Documents.{IsClosed, child_reached}
 
@@ -82,10 +82,6 @@ pub all_push : {X : Type 0} (P : X → Type 0) (xs : List X) (x : X) → AllByRe
 all_push P [] x all here = (here, tt)
 all_push P (y ∷ ys) x all here = (all.0, all_push P ys x all.1 here)
 
-pub grows_reached : (first : Declarations) (root : List ℕ) (names : List (List ℕ)) (n : List ℕ) → AllByRecursion (IsReached first root) names → Grows first names n → IsReached first root n
-grows_reached first root names n all grows =
-    child_reached first root grows.parent n grows.child.listed (reached_of first root names grows.parent all grows.here) grows.child.content grows.child.child.at grows.child.child.named
-
 pub among_kept : (names : List (List ℕ)) (n e : List ℕ) → IsTrue (among names e) → IsTrue (among (names ++ n ∷ []) e)
 among_kept [] n e at = absurd (let off : IsTrue false = at in cc)
 among_kept (x ∷ xs) n e at = by (bytes_eq e x) refl (λ t. among_kept xs n e t)
@@ -96,11 +92,6 @@ among_kept (x ∷ xs) n e at = by (bytes_eq e x) refl (λ t. among_kept xs n e t
 
 abbrev pub declared_in : List Element → List ℕ → Bool
 declared_in es e = is_some (lookup (bytes_eq e) es)
-
--- how many elements are not among the names
-abbrev pub unmarked : List (List ℕ) → List Element → ℕ
-unmarked names [] = 0
-unmarked names (e ∷ es) = (cond (among names e.0) 0 1) + unmarked names es
 
 one_kept : (names : List (List ℕ)) (n e : List ℕ) → cond (among (names ++ n ∷ []) e) 0 1 ≤ cond (among names e) 0 1
 one_kept names n e = by (among names e) refl (among (names ++ n ∷ []) e) refl
@@ -115,7 +106,7 @@ no_more : (names : List (List ℕ)) (n : List ℕ) (es : List Element) → unmar
 no_more names n [] = omega arith
 no_more names n (e ∷ es) = omega (arith, one_kept names n e.0, no_more names n es)
 
-among_new : (names : List (List ℕ)) (n : List ℕ) → IsTrue (among (names ++ n ∷ []) n)
+pub among_new : (names : List (List ℕ)) (n : List ℕ) → IsTrue (among (names ++ n ∷ []) n)
 among_new [] n = or_left (bytes_eq n n) false (nat_list_eq_equiv.refl n)
 among_new (x ∷ xs) n = or_right (bytes_eq n x) _ (among_new xs n)
 
@@ -136,3 +127,15 @@ fewer names n (e ∷ es) some new = by (bytes_eq n e.0) refl (λ t. fewer names 
 pub not_true : (b : Bool) → {r : Bool} → r ≡ not b → r ≡ true → b ≡ false
 not_true true e t = cc
 not_true false e t = refl
+
+more_by : (a b c : Bool) → (IsTrue b → IsTrue c) → IsTrue (a || b) → IsTrue (a || c)
+more_by true b c f t = refl
+more_by false b c f t = f t
+
+pub all_join : {X : Type 0} (P : X → Type 0) (xs ys : List X) → AllByRecursion P xs → AllByRecursion P ys → AllByRecursion P (xs ++ ys)
+all_join P [] ys all each = each
+all_join P (x ∷ xs) ys all each = (all.0, all_join P xs ys all.1 each)
+
+pub among_more : (names more : List (List ℕ)) (e : List ℕ) → IsTrue (among names e) → IsTrue (among (names ++ more) e)
+among_more [] more e at = absurd (let off : IsTrue false = at in cc)
+among_more (x ∷ xs) more e at = more_by (bytes_eq e x) (among xs e) (among (xs ++ more) e) (among_more xs more e) at

@@ -1,5 +1,5 @@
 -- Tests of names that the comparison makes.
-use Rattle.std.specs.Prelude.{◌≡◌, ℕ, Bool, true, false, not, ◌||◌, List, ◌∷◌, ◌++◌, Option, Some, None, is_some, IsTrue, slice_get}
+use Rattle.std.specs.Prelude.{◌≡◌, ℕ, ◌+◌, ◌≤◌, length, if◌then◌else◌, Bool, true, false, not, ◌||◌, List, ◌∷◌, ◌++◌, Option, Some, None, is_some, IsTrue, slice_get, []}
 use Rattle.std.specs.List.{list_all, AllByRecursion}
 use Rattle.jats_chars.specs.Names.{is_name}
 use Rattle.content_models.specs.declared.Content.{Content}
@@ -42,18 +42,37 @@ pub record Listed (first : Declarations) (listed : List (List ℕ)) (name : List
   pub some : IsTrue (declared first name)
   pub named : IsTrue (is_name name)
 
--- a child of e that is not among the names
-pub record NewChild (first : Declarations) (names : List (List ℕ)) (e name : List ℕ) : Type 0 where
+-- the listed names, as the content of e has them
+pub record IsListed (first : Declarations) (content : Option Content) (name : List ℕ) : Type 0 where
   pub listed : List (List ℕ)
-  pub content : content_in first e ≡ Some (Mixed listed)
+  pub content_is : content ≡ Some (Mixed listed)
   pub child : Listed first listed name
-  pub new : among names name ≡ false
 
--- a child of one of the names that is not among them
-pub record Grows (first : Declarations) (names : List (List ℕ)) (name : List ℕ) : Type 0 where
-  pub parent : List ℕ
-  pub here : IsTrue (among names parent)
-  pub child : NewChild first names parent name
+-- how many elements are not among the names
+abbrev pub unmarked : List (List ℕ) → List Element → ℕ
+unmarked names [] = 0
+unmarked names (e ∷ es) = (if among names e.0 then 0 else 1) + unmarked names es
+
+-- of these names of the list, those that are declared and new go last
+pub record AddsListed (first : Declarations) (listed done old new : List (List ℕ)) : Type 0 where
+  pub more : List (List ℕ)
+  pub grown : new ≡ old ++ more
+  pub children : AllByRecursion (Listed first listed) more
+  pub leads : IsTrue (list_all (led first new) done)
+  pub fewer : unmarked new first.elements + length new ≤ unmarked old first.elements + length old
+
+-- what the content lists, is declared and is new goes last
+pub record AddsChildren (first : Declarations) (content : Option Content) (old new : List (List ℕ)) : Type 0 where
+  pub more : List (List ℕ)
+  pub grown : new ≡ old ++ more
+  pub children : AllByRecursion (IsListed first content) more
+  pub leads : IsTrue (closes first new content)
+  pub fewer : unmarked new first.elements + length new ≤ unmarked old first.elements + length old
+
+-- the content of a name
+abbrev pub content_at : Declarations → Option (List ℕ) → Option Content
+content_at first None = None
+content_at first (Some name) = content_in first name
 
 -- no cause breaks the element
 abbrev pub IsFine : Declarations → Declarations → List ℕ → Type 0

@@ -1,6 +1,7 @@
 //! The comparison of two sets.
 
-ghost use Rattle.std.specs.Prelude.{◌≡◌, IfOk, IsSome, Some, MatchOption, IsTrue, not, false};
+ghost use Rattle.std.specs.Prelude.{◌≡◌, IfOk, OnOk, IsSome, Some, MatchOption, IsTrue, not, false, slice_get};
+ghost use Rattle.std.specs.Option.{option_copied};
 ghost use Rattle.std.specs.List.{list_all, AllByRecursion};
 ghost use Rattle.jats_chars.specs.Names.{is_name};
 ghost use Rattle.content_models.specs.Derives.{among};
@@ -11,9 +12,10 @@ ghost use Rattle.decl_set.specs.Validity.{HasDocument};
 ghost use Rattle.decl_set.specs.Breaks.{Cause as Reason, BreaksBy, Breaks};
 ghost use Rattle.tagset_tool.specs.Verdicts.{IsVerdict, meant};
 
+use crate::name_set::NameSet;
 use content_models::Content;
 use decl_set::DeclSet;
-use jats_chars::{Name, NameList, NoMemory};
+use jats_chars::{Name, NoMemory};
 use std::alloc::Global;
 
 /// Why an element of the first set is not one of the second.
@@ -107,72 +109,82 @@ fn cause_of(first: &DeclSet, second: &DeclSet, name: &Name) -> Option<Cause>
     }
 }
 
-fn is_new(first: &DeclSet, names: &NameList, name: &Name) -> bool
+fn is_new(first: &DeclSet, names: &NameSet, name: &Name) -> bool
     ensures value { result ≡ not (spec.led first.now names.now name.now) }
     ensures named { IsTrue (is_name name.now) }
     ensures some { IsTrue result → IsTrue (spec.declared first.now name.now) }
     ensures new { IsTrue result → among names.now name.now ≡ false }
 {
     let _text = name.text();
-    is_declared(first, name) && !is_among(names.as_slice(), name)
+    is_declared(first, name) && !names.contains(name)
 }
 
-/// The first listed name that the first set declares and that is not among the names.
-fn new_listed<'a>(first: &DeclSet, names: &NameList, listed: &'a [Name]) -> Option<&'a Name>
-    ensures { MatchOption result (IsTrue (list_all (spec.led first.now names.now) listed.now)) (λ n. spec.Listed first.now listed.now n.now × (among names.now n.now ≡ false)) }
+/// Adds the listed names that the first set declares and that are not among the names.
+fn add_listed(
+    alloc: Global,
+    first: &DeclSet,
+    names: &mut NameSet,
+    listed: &[Name],
+) -> Result<(), NoMemory>
+    ensures { OnOk result (spec.AddsListed first.now listed.now listed.now names.old names.new) }
 {
     for n in listed {
         if is_new(first, names, n) {
-            return Some(n);
+            names.add(n.copy(alloc)?)?;
         }
     }
-    None
+    Ok(())
 }
 
-fn new_child<'a>(first: &'a DeclSet, names: &NameList, parent: &Name) -> Option<&'a Name>
-    ensures { MatchOption result (IsTrue (spec.closes first.now names.now (content_in first.now parent.now))) (λ n. spec.NewChild first.now names.now parent.now n.now) }
+/// Adds what is listed in this content.
+fn add_children(
+    alloc: Global,
+    first: &DeclSet,
+    names: &mut NameSet,
+    content: Option<&Content>,
+) -> Result<(), NoMemory>
+    ensures { OnOk result (spec.AddsChildren first.now (option_copied content.entry) names.old names.new) }
 {
-    match first.content_of(parent) {
+    match content {
+        None => Ok(()),
+        Some(Content::Empty) => Ok(()),
+        Some(Content::Mixed(listed)) => add_listed(alloc, first, names, listed.as_slice()),
+    }
+}
+
+/// The content of the name at this place.
+fn content_at<'a>(first: &'a DeclSet, names: &NameSet, at: usize) -> Option<&'a Content>
+    ensures { option_copied result ≡ spec.content_at first.now (slice_get names.now at) }
+{
+    match names.get(at) {
         None => None,
-        Some(content) => match content {
-            Content::Empty => None,
-            Content::Mixed(listed) => new_listed(first, names, listed.as_slice()),
-        },
+        Some(parent) => first.content_of(parent),
     }
-}
-
-/// A child of one of the names that is not among them.
-fn find_new<'a>(first: &'a DeclSet, names: &NameList) -> Option<&'a Name>
-    ensures { MatchOption result (IsTrue (spec.is_closed first.now names.now)) (λ n. spec.Grows first.now names.now n.now) }
-{
-    for parent in names.as_slice() {
-        if let Some(n) = new_child(first, names, parent) {
-            return Some(n);
-        }
-    }
-    None
 }
 
 /// The elements that stand in documents from the root.
-fn useful_names(alloc: Global, first: &DeclSet, root: &Name) -> Result<NameList, NoMemory>
+fn useful_names(alloc: Global, first: &DeclSet, root: &Name) -> Result<NameSet, NoMemory>
     ensures reached { IfOk result (λ names. AllByRecursion (IsReached first.now root.now) names) }
     ensures closed { IfOk result (λ names. IsTrue (spec.is_closed first.now names)) }
     ensures root { IfOk result (λ names. IsTrue (among names root.now)) }
 {
-    let mut names = NameList::new(alloc);
+    let mut names = NameSet::new(alloc);
     let _text = root.text();
-    names.push(root.copy(alloc)?)?;
-    while let Some(n) = find_new(first, &names) {
-        names.push(n.copy(alloc)?)?;
+    names.add(root.copy(alloc)?)?;
+    let mut at: usize = 0;
+    while at < names.len() {
+        let content = content_at(first, &names, at);
+        add_children(alloc, first, &mut names, content)?;
+        at += 1;
     }
     Ok(names)
 }
 
 /// Why the name breaks, where it is one of the names.
-fn named_cause(first: &DeclSet, second: &DeclSet, names: &NameList, name: &Name) -> Option<Cause>
+fn named_cause(first: &DeclSet, second: &DeclSet, names: &NameSet, name: &Name) -> Option<Cause>
     ensures { MatchOption result (IsTrue (among names.now name.now) → spec.IsFine first.now second.now name.now) (λ k. IsTrue (among names.now name.now) × Breaks first.now second.now name.now (meant k)) }
 {
-    if is_among(names.as_slice(), name) {
+    if names.contains(name) {
         cause_of(first, second, name)
     } else {
         None
@@ -183,7 +195,7 @@ fn named_cause(first: &DeclSet, second: &DeclSet, names: &NameList, name: &Name)
 fn break_at<'a>(
     first: &'a DeclSet,
     second: &DeclSet,
-    names: &NameList,
+    names: &NameSet,
     at: usize,
 ) -> Option<(&'a Name, Cause)>
     ensures { MatchOption result (spec.FineAt first.now second.now names.now at) (λ p. spec.BreakAt first.now second.now names.now at p.0.now (meant p.1)) }
@@ -202,7 +214,7 @@ fn first_broken(
     alloc: Global,
     first: &DeclSet,
     second: &DeclSet,
-    names: &NameList,
+    names: &NameSet,
 ) -> Result<Option<BrokenDecl>, NoMemory>
     ensures { IfOk result (λ o. MatchOption o (AllByRecursion (spec.IsFineNamed first.now second.now names.now) first.now.elements) (λ d. spec.FirstBreak first.now second.now names.now d.element (meant d.cause))) }
 {

@@ -9,6 +9,7 @@
 mod comparison;
 mod laws;
 mod lines;
+mod name_set;
 mod read;
 mod rows;
 mod scan;

@@ -1,12 +1,10 @@
-use Rattle.std.proofs.Common.{IsTrue}
-use Rattle.std.specs.List.{AllByRecursion}
-use Rattle.content_models.specs.Derives.{among}
-use Rattle.tagset_tool.specs.Reached.{IsReached}
-use Rattle.tagset_tool.proofs.Names.{unmarked}
+use Rattle.std.proofs.Common.{◌+◌, ◌-◌, length}
+use Rattle.tagset_tool.specs.Checks.{unmarked}
+use Rattle.tagset_tool.proofs.Added.{Gathers}
 use Rattle.tagset_tool.proofs.comparison.useful_names.Given as goal
 
-abbrev pub invariant-loop-n : goal.invariant-loop-n
-invariant-loop-n l = AllByRecursion (IsReached l.first l.root) l.names × IsTrue (among l.names l.root)
+abbrev pub invariant-loop-at : goal.invariant-loop-at
+invariant-loop-at l = Gathers l.first l.root l.names l.at
 
-abbrev pub decreases-loop-n : goal.decreases-loop-n
-decreases-loop-n l = unmarked l.names l.first.elements
+abbrev pub decreases-loop-at : goal.decreases-loop-at
+decreases-loop-at l = unmarked l.names l.first.elements + length l.names - l.at
