@@ -1,0 +1,28 @@
+#!/usr/bin/env bash
+# The commands of the README on the shipped examples, over real files and standard output.
+set -u
+cd "$(dirname "$0")/.." || exit 1
+passed=0
+failed=0
+expect() {
+    local want_status=$1 want=$2
+    shift 2
+    local got status
+    got=$(./tagset "$@" 2>/dev/null)
+    status=$?
+    if [ "$status" -eq "$want_status" ] && [ "$got" = "$want" ]; then
+        passed=$((passed + 1))
+    else
+        failed=$((failed + 1))
+        echo "failed: tagset $*: status $status, output: $got"
+    fi
+}
+expect 1 $'not subset\nabove 0\nbroken p content' compare - examples/first.dtd - examples/second.dtd r 0
+expect 0 $'subset\ndocuments some' compare - examples/second.dtd - examples/first.dtd r 0
+expect 2 'refused E40 RootUndeclared - 0 article' compare - examples/first.dtd - examples/second.dtd article 0
+expect 2 'refused E10 ModuleAbsent examples/no.dtd 0' compare - examples/no.dtd - examples/second.dtd r 0
+expect 3 'usage'
+./tagset compare - examples/first.dtd - examples/second.dtd r 0 > /dev/full 2>/dev/null
+if [ $? -eq 5 ]; then passed=$((passed + 1)); else failed=$((failed + 1)); echo "failed: a full device is not status 5"; fi
+echo "$passed passed, $failed failed"
+[ "$failed" -eq 0 ]
