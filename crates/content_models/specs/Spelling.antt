@@ -1,78 +1,44 @@
--- How contents are spelled (XML 1.0, 3.2).
-use Rattle.std.specs.Prelude.{◌≡◌, ℕ, ◌-◌, ◌&&◌, nat_le, Bool, true, false, not, List, [], ◌∷◌, length, take, drop, map, reverse, position, unwrap_or, Option, Some, None, bytes_eq, codes, nat_eq, ◌==◌, if◌then◌else◌}
-use Rattle.std.specs.List.{starts_with, ends_with, slice_split, list_all}
-use Rattle.jats_chars.specs.Names.{is_name}
-use Rattle.content_models.specs.Derives.{among}
-use Rattle.jats_chars.specs.Classes.{is_space}
-use Rattle.content_models.specs.declared.Content.{Content}
-use Rattle.content_models.specs.declared.Content.TheVariants.{Empty, Mixed}
-use Rattle.content_models.specs.declared.TextKind.{TextKind}
-use Rattle.content_models.specs.declared.TextKind.TheVariants.{NoItems, All}
+-- The flat spelling of contents, without white space (XML 1.0, 3.2).
+use Rattle.std.specs.Prelude.{ℕ, List, [], ◌∷◌, ◌++◌, codes}
+use Rattle.content_models.specs.declared.content.Occurs.{Occurs}
+use Rattle.content_models.specs.declared.content.Particle.{Particle, fold-Particle}
+use Rattle.content_models.specs.declared.content.Particle.TheOpen.{Particle-F}
+use Rattle.content_models.specs.declared.content.Content.{Content}
+use Rattle.content_models.specs.declared.content.Content.TheVariants.{Empty, Any, Mixed, Children}
+use Rattle.content_models.specs.Model.{Chars}
+use Rattle.content_models.specs.Grammar.{mark}
 
-abbrev pub text_kind : Content → TextKind
-text_kind Empty = NoItems
-text_kind (Mixed listed) = All
+-- texts, each behind a separator
+abbrev pub behind : ℕ → List Chars → Chars
+behind separator [] = []
+behind separator (text ∷ texts) = separator ∷ (text ++ behind separator texts)
 
--- how many white space characters the text begins with
-abbrev pub spaces : List ℕ → ℕ
-spaces text = unwrap_or (position (λ c. not (is_space c)) text) (length text)
+-- texts with separators between them
+abbrev pub joined : ℕ → List Chars → Chars
+joined separator [] = []
+joined separator (text ∷ texts) = text ++ behind separator texts
 
--- the text without the white space at its end
-abbrev pub trimmed_end : List ℕ → List ℕ
-trimmed_end text = take (length text - spaces (reverse text)) text
+-- a group from the texts of its parts
+abbrev pub group : ℕ → List Chars → Occurs → Chars
+group separator texts occurs = 40 ∷ (joined separator texts ++ (41 ∷ mark occurs))
 
--- the text without the white space at its ends
-unfoldable pub trimmed : List ℕ → List ℕ
-trimmed text = trimmed_end (drop (spaces text) text)
+abbrev pub spell_layer : Particle-F Chars → Chars
+spell_layer (Particle-F.One name occurs) = name ++ mark occurs
+spell_layer (Particle-F.Seq texts occurs) = group 44 texts occurs
+spell_layer (Particle-F.Choice texts occurs) = group 124 texts occurs
 
--- the names that parts spell, each perhaps between white space
-abbrev pub names_of : List (List ℕ) → Option (List (List ℕ))
-names_of parts = if list_all is_name (map trimmed parts) then Some (map trimmed parts) else None
+-- the flat spelling of a part
+unfoldable pub spelled : Particle → Chars
+spelled = fold-Particle Chars spell_layer
 
-abbrev pub mixed_with : Option (List (List ℕ)) → Option Content
-mixed_with None = None
-mixed_with (Some names) = Some (Mixed names)
+-- how a mixed content closes: with a star where it has names
+abbrev pub mixed_close : List Chars → Chars
+mixed_close [] = codes ")"
+mixed_close (name ∷ names) = codes ")*"
 
-abbrev pub is_pcdata : List ℕ → Bool
-is_pcdata text = bytes_eq (trimmed text) (codes "#PCDATA")
-
--- `#PCDATA`, and then names
-abbrev pub of_parts : List (List ℕ) → Option Content
-of_parts [] = None
-of_parts (first ∷ rest) = if is_pcdata first then mixed_with (names_of rest) else None
-
-abbrev pub is_bar : ℕ → Bool
-is_bar c = c == 124
-
--- what stands between the first character and the last n
-abbrev pub inside : ℕ → List ℕ → List ℕ
-inside n text = take (length text - n - 1) (drop 1 text)
-
--- the content in parentheses: with a star any names, without none
-abbrev pub grouped : List ℕ → Option Content
-grouped text =
-    if ends_with nat_eq text (codes ")*") then of_parts (slice_split is_bar (inside 2 text))
-    else if ends_with nat_eq text (codes ")") then (if is_pcdata (inside 1 text) then Some (Mixed []) else None)
-    else None
-
--- whether no name stands twice
-abbrev pub are_distinct : List (List ℕ) → Bool
-are_distinct [] = true
-are_distinct (name ∷ names) = not (among names name) && are_distinct names
-
--- whether a content keeps to its limits: at most 1,024 names, and none twice
-abbrev pub is_proper : Content → Bool
-is_proper Empty = true
-is_proper (Mixed names) = nat_le (length names) 1024 && are_distinct names
-
-abbrev pub if_proper : Option Content → Option Content
-if_proper None = None
-if_proper (Some content) = if is_proper content then Some content else None
-
--- the content that a text spells
-unfoldable pub spelled : List ℕ → Option Content
-spelled text = if bytes_eq text (codes "EMPTY") then Some Empty else (if starts_with nat_eq text (codes "(") then grouped text else None)
-
--- the proper content that a text spells
-abbrev pub content_of : List ℕ → Option Content
-content_of text = if_proper (spelled text)
+-- the flat spelling of a content
+unfoldable pub flat : Content → Chars
+flat Empty = codes "EMPTY"
+flat Any = codes "ANY"
+flat (Mixed names) = codes "(#PCDATA" ++ (behind 124 names ++ mixed_close names)
+flat (Children part) = spelled part

@@ -1,11 +1,11 @@
 -- Why a set is not within another: useful elements that break.
 use Rattle.std.specs.Prelude.{◌≡◌, ℕ, List, [], ◌∷◌, ◌++◌, Option, Some, None}
 use Rattle.std.specs.List.{AllByRecursion}
-use Rattle.content_models.specs.declared.Content.{Content}
-use Rattle.content_models.specs.declared.TextKind.{TextKind}
-use Rattle.content_models.specs.declared.TextKind.TheVariants.{NoItems, All}
-use Rattle.content_models.specs.Derives.{Derives}
-use Rattle.content_models.specs.Spelling.{text_kind}
+use Rattle.content_models.specs.declared.content.Content.{Content}
+use Rattle.content_models.specs.declared.content.TextKind.{TextKind}
+use Rattle.content_models.specs.declared.content.TextKind.TheVariants.{NoItems, White, All}
+use Rattle.content_models.specs.Model.{Derives}
+use Rattle.content_models.specs.Kinds.{text_kind}
 use Rattle.decl_set.specs.Declarations.{Declarations, Element, content_in}
 use Rattle.decl_set.specs.Validity.{HasDocument, IsUseful}
 
@@ -19,11 +19,15 @@ pub data Cause : Type 0 where
 abbrev pub ContentBreaks : Declarations → Content → Content → Type 0
 ContentBreaks first a b = (names : List (List ℕ)) × AllByRecursion (HasDocument first) names × Derives a names × (Derives b names → ⊥)
 
--- the one kind of text allows items that the other does not
+-- the one kind of text allows items that the other does not: none, plain runs, all
 abbrev pub IsMoreText : TextKind → TextKind → Type 0
-IsMoreText All NoItems = Unit {0}
-IsMoreText All All = ⊥
 IsMoreText NoItems k = ⊥
+IsMoreText White NoItems = Unit {0}
+IsMoreText White White = ⊥
+IsMoreText White All = ⊥
+IsMoreText All NoItems = Unit {0}
+IsMoreText All White = Unit {0}
+IsMoreText All All = ⊥
 
 -- the element with these contents breaks by this cause, the first that holds
 abbrev pub BreaksBy : Declarations → Option Content → Option Content → Cause → Type 0

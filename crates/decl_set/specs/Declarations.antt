@@ -1,7 +1,7 @@
 -- A set of declarations, as lists in order of declaration.
 use Rattle.std.specs.Prelude.{ℕ, List, [], Option, bytes_eq}
 use Rattle.std.specs.Map.{lookup}
-use Rattle.content_models.specs.declared.Content.{Content}
+use Rattle.content_models.specs.declared.content.Content.{Content}
 
 -- an element with its content
 abbrev pub Element : Type 0

@@ -1,6 +1,6 @@
 -- What declaring an element does.
 use Rattle.std.specs.Prelude.{◌≡◌, ℕ, ◌<◌, List, [], ◌∷◌, ◌++◌, length, None, IsSome, Result, Ok, Err}
-use Rattle.content_models.specs.declared.Content.{Content}
+use Rattle.content_models.specs.declared.content.Content.{Content}
 use Rattle.decl_set.specs.Declarations.{Declarations, content_in}
 use Rattle.decl_set.specs.declared.DeclFault.{DeclFault}
 use Rattle.decl_set.specs.declared.DeclFault.TheVariants as fault

@@ -1,16 +1,17 @@
 -- When a document meets a set of declarations (XML 1.0, 3, Element Valid; structure alone).
 use Rattle.std.specs.Prelude.{◌≡◌, ℕ, List, [], Option, Some, None, IsTrue}
-use Rattle.content_models.specs.declared.Content.{Content}
-use Rattle.content_models.specs.declared.TextKind.{TextKind}
-use Rattle.content_models.specs.declared.TextKind.TheVariants.{NoItems, All}
-use Rattle.content_models.specs.Derives.{Derives}
-use Rattle.content_models.specs.Spelling.{text_kind}
-use Rattle.document_trees.specs.Trees.{Attribute, Items, Node, IsDocument, EachNode, child_names, elements_alone, stands_in}
+use Rattle.content_models.specs.declared.content.Content.{Content}
+use Rattle.content_models.specs.declared.content.TextKind.{TextKind}
+use Rattle.content_models.specs.declared.content.TextKind.TheVariants.{NoItems, White, All}
+use Rattle.content_models.specs.Model.{Derives}
+use Rattle.content_models.specs.Kinds.{text_kind}
+use Rattle.document_trees.specs.Trees.{Attribute, Items, Node, IsDocument, EachNode, child_names, elements_alone, runs_plain, stands_in}
 use Rattle.decl_set.specs.Declarations.{Declarations, content_in}
 
--- the items other than elements are allowed
+-- the items other than elements are allowed: none, plain runs with comments and processing instructions, or all
 abbrev pub TextAllowed : TextKind → Items → Type 0
 TextAllowed NoItems items = IsTrue (elements_alone items)
+TextAllowed White items = IsTrue (runs_plain items)
 TextAllowed All items = Unit {0}
 
 -- These items and attributes meet the content, where it is declared: the child names are derived, the other items are

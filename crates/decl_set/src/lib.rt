@@ -40,7 +40,12 @@ impl Model for DeclSet {
     ghost use Rattle.std.specs.Prelude.{◌≤◌, length};
     ghost use Rattle.decl_set.specs.Declarations.{Declarations};
 
+    ghost use Rattle.std.specs.Coded.{codes};
+    ghost use Rattle.content_models.specs.contracts.content.Particle as particle;
+
     ghost Value = { Declarations };
+
+    ghost coded = { Prim.hlevel (codes, particle.the_row.coded) };
 
     ghost use Rattle.decl_set.specs.DeclaredBy.{declared_by};
 

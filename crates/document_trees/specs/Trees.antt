@@ -39,6 +39,14 @@ elements_alone (chars text plain later) = false
 elements_alone (comment text later) = false
 elements_alone (pi target body later) = false
 
+-- whether each run is plain
+abbrev pub runs_plain : Items → Bool
+runs_plain nothing = true
+runs_plain (element name atts inside later) = runs_plain later
+runs_plain (chars text plain later) = plain && runs_plain later
+runs_plain (comment text later) = runs_plain later
+runs_plain (pi target body later) = runs_plain later
+
 -- P of each node below
 abbrev pub EachBelow : (List ℕ → List Attribute → Items → Type 0) → Items → Type 0
 EachBelow P nothing = Unit {0}

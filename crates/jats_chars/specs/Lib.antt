@@ -1,3 +1,5 @@
 pub mod Classes
+pub mod Decoded
 pub mod Names
+pub mod TextDeclaration
 pub mod formers

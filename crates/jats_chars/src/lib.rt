@@ -6,11 +6,16 @@
 #![tactic(auto)]
 
 mod classes;
+mod decoding;
 mod list;
 mod name;
+#[cfg(test)]
+mod tests;
 mod text;
+mod text_declaration;
 
 pub use classes::{Ranges, is_char, is_name_char, is_name_start, is_pubid_char, is_space};
+pub use decoding::{DecodeFault, decode};
 pub use list::ListOf;
 pub use name::{Name, is_name, is_name_slice, is_nmtoken, is_nmtoken_slice};
 use std::alloc::{AllocError, AllocFailed};

@@ -1,9 +1,9 @@
 //! Lists.
 
-ghost use Rattle.std.specs.Prelude.{◌≡◌, [], ◌∷◌, ◌++◌, ◌<◌, length, slice_get, OnOk, OnErr, OnSome};
+ghost use Rattle.std.specs.Prelude.{◌≡◌, [], ◌∷◌, ◌++◌, ◌<◌, length, slice_get, IfOk, OnOk, OnErr, OnSome};
 ghost use Rattle.std.specs.Option.{option_copied};
 
-use crate::NoMemory;
+use crate::{Name, NoMemory, Text};
 use std::alloc::Global;
 use std::marker::Model;
 
@@ -72,5 +72,31 @@ impl<T: Drop> ListOf<T> {
     {
         self.items.push(item)?;
         Ok(())
+    }
+}
+
+impl ListOf<Text> {
+    /// A list of the same texts.
+    pub fn copy(&self, alloc: Global) -> Result<ListOf<Text>, NoMemory>
+        ensures { IfOk result (λ it. it ≡ self.now) }
+    {
+        let mut texts = ListOf::new(alloc);
+        for text in self.as_slice() {
+            texts.push(text.copy(alloc)?)?;
+        }
+        Ok(texts)
+    }
+}
+
+impl ListOf<Name> {
+    /// A list of the same names.
+    pub fn copy(&self, alloc: Global) -> Result<ListOf<Name>, NoMemory>
+        ensures { IfOk result (λ it. it ≡ self.now) }
+    {
+        let mut names = ListOf::new(alloc);
+        for name in self.as_slice() {
+            names.push(name.copy(alloc)?)?;
+        }
+        Ok(names)
     }
 }

@@ -1,6 +1,6 @@
 //! Texts.
 
-ghost use Rattle.std.specs.Prelude.{◌≡◌, [], ◌∷◌, ◌++◌, length, slice_get, IfOk, OnOk, OnErr, encode_utf8_all};
+ghost use Rattle.std.specs.Prelude.{◌≡◌, [], ◌∷◌, ◌++◌, length, slice_get, drop, vec_len, ◌≤◌, ◌-◌, IfOk, OnOk, OnErr, encode_utf8_all};
 
 use crate::NoMemory;
 use std::alloc::Global;
@@ -20,6 +20,18 @@ impl Model for Text {
     ghost Value = { List ℕ };
 
     ghost view = { λ t. t.chars.items };
+}
+
+/// Drops the first characters.
+fn shift_down(chars: &mut Vec<char>, dropped: usize)
+    requires { dropped ≤ vec_len chars.old }
+    ensures { chars.new.items ≡ drop dropped chars.old.items }
+{
+    let left = chars.len() - dropped;
+    for k in 0..left {
+        chars[k] = chars[k + dropped];
+    }
+    chars.truncate(left);
 }
 
 impl Text {
@@ -92,6 +104,18 @@ impl Text {
         ensures { result.now ≡ self.now }
     {
         self.chars.as_slice()
+    }
+
+    /// Drops all characters but the last.
+    pub(crate) fn keep_last(&mut self, left: usize)
+        requires { left ≤ length self.old }
+        ensures { self.new ≡ drop (length self.old - left) self.old }
+    {
+        let dropped = self.chars.len() - left;
+        if dropped == 0 {
+            return;
+        }
+        shift_down(&mut self.chars, dropped);
     }
 
     /// A text with the same characters.

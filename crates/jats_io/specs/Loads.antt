@@ -23,8 +23,12 @@ Failed result = result ≡ Err fault.Failed
 abbrev pub Absent : Result Loaded LoadFault → Type 0
 Absent result = result ≡ Ok loaded.Absent
 
--- the first limit + 1 bytes of what is held, or that nothing is
+-- these are the first limit + 1 bytes of what is held under the name, or all where there are fewer
+abbrev pub IsHeld : List (List ℕ × List ℕ) → List ℕ → ℕ → List ℕ → Type 0
+IsHeld files name limit bytes = option_map (take (limit + 1)) (held files name) ≡ Some bytes
+
+-- the bytes that are held, or that nothing is
 abbrev pub Loads : List (List ℕ × List ℕ) → List ℕ → ℕ → Result Loaded LoadFault → Type 0
-Loads files name limit (Ok (loaded.Bytes bytes)) = option_map (take (limit + 1)) (held files name) ≡ Some bytes.items
+Loads files name limit (Ok (loaded.Bytes bytes)) = IsHeld files name limit bytes.items
 Loads files name limit (Ok loaded.Absent) = held files name ≡ None
 Loads files name limit (Err e) = Unit {0}

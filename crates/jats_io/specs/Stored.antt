@@ -1,7 +1,7 @@
 -- The stores in memory, and what a load does to them.
-use Rattle.std.specs.Prelude.{◌≡◌, ℕ, ◌+◌, List, Some, None, option_map, take, Result, Ok, Err, IsSome, Contains}
+use Rattle.std.specs.Prelude.{◌≡◌, ℕ, List, None, Result, Ok, Err, IsSome, Contains}
 use Rattle.jats_io.specs.Causes.{raised}
-use Rattle.jats_io.specs.Loads.{held}
+use Rattle.jats_io.specs.Loads.{held, IsHeld}
 use Rattle.jats_io.specs.declared.store.Loaded.{Loaded}
 use Rattle.jats_io.specs.declared.store.Loaded.TheVariants as loaded
 use Rattle.jats_io.specs.declared.store.LoadFault.{LoadFault}
@@ -26,10 +26,6 @@ pub record Stored : Type 0 where
   pub faults : ℕ
   -- how often a file was absent
   pub absences : ℕ
-
--- the first limit + 1 bytes of what is held under the name
-abbrev pub IsHeld : List (List ℕ × List ℕ) → List ℕ → ℕ → List ℕ → Type 0
-IsHeld files name limit bytes = option_map (take (limit + 1)) (held files name) ≡ Some bytes
 
 -- a load of a sound store: it never fails, and what is held alone takes memory
 abbrev pub LoadsSound : SoundFiles → SoundFiles → List ℕ → ℕ → Result Loaded LoadFault → Type 0

@@ -1,10 +1,11 @@
 //! The files of a folder.
 
-ghost use Rattle.std.specs.Prelude.{◌≡◌, ◌≤◌, ◌<◌, ◌+◌, ◌^◌, ◌∷◌, ◌++◌, IfOk, OnOk, length, vec_len, string_bytes, encode_utf8_all};
+ghost use Rattle.std.specs.Prelude.{◌≡◌, ◌≤◌, ◌<◌, ◌+◌, ◌^◌, ◌∷◌, ◌++◌, IfOk, IfSome, length, take, vec_len, string_bytes, encode_utf8_all};
+ghost use Rattle.std.specs.Io.KnownBytes.{Consumes, IsAtEnd};
 
 use crate::store::{LoadFault, Loaded, Store};
 use jats_chars::{NoMemory, Text};
-use std::alloc::Global;
+use std::alloc::{AllocError, Global};
 use std::fs::{self, Files};
 use std::io::{ErrorKind, Read};
 
@@ -22,7 +23,11 @@ pub struct FolderStore<'a, R: Files> {
 
 impl<'a, R: Files> FolderStore<'a, R> {
     /// The files below this folder, with counts of 0.
-    pub fn new(rt: &'a R, folder: Text) -> FolderStore<'a, R> {
+    pub fn new(rt: &'a R, folder: Text) -> FolderStore<'a, R>
+        ensures folder { result.folder ≡ folder }
+        ensures faults { result.faults ≡ 0 }
+        ensures absences { result.absences ≡ 0 }
+    {
         FolderStore {
             rt,
             folder,
@@ -54,29 +59,56 @@ fn path_of(alloc: Global, folder: &Text, name: &Text) -> Result<String, NoMemory
     Ok(path)
 }
 
-/// The bytes up to the end, or one more than the limit.
-fn read_bytes<F: Read>(alloc: Global, file: &mut F, limit: usize) -> Result<Vec<u8>, LoadFault>
-    requires { limit < 2 ^ 31 }
-    ensures { IfOk result (λ bytes. vec_len bytes ≤ limit + 1) }
+/// One read, of which the bytes are appended. It answers how many they are: none only at the end.
+fn read_piece<F: Read>(
+    file: &mut F,
+    piece: &mut [u8],
+    bytes: &mut Vec<u8>,
+) -> Result<usize, LoadFault>
+    requires { 0 < length piece.old }
+    ensures count { IfOk result (λ count. count ≤ length piece.new) }
+    ensures appends { IfOk result (λ count. bytes.new.items ≡ bytes.old.items ++ take count piece.new) }
+    ensures grows { IfOk result (λ count. vec_len bytes.new ≡ vec_len bytes.old + count) }
+    ensures reads { IfOk result (λ count. Consumes (F.remaining file.old) (F.remaining file.new) (take count piece.new)) }
+    ensures end { IfOk result (λ count. count ≡ 0 → IsAtEnd (F.remaining file.new)) }
+{
+    let Ok(count) = file.read(piece) else {
+        return Err(LoadFault::Failed);
+    };
+    match bytes.extend_from_slice(&piece[..count]) {
+        Ok(()) => Ok(count),
+        Err(_) => Err(LoadFault::NoMemory),
+    }
+}
+
+/// The first limit + 1 bytes of the file, or all where there are fewer, read by way of the buffer.
+fn read_bytes<F: Read>(
+    alloc: Global,
+    file: &mut F,
+    buffer: &mut [u8],
+    limit: usize,
+) -> Result<Vec<u8>, LoadFault>
+    requires limit { limit < 2 ^ 31 }
+    requires buffer { 0 < length buffer.old }
+    ensures { IfOk result (λ bytes. IfSome (F.remaining file.old) (λ rest. bytes.items ≡ take (limit + 1) rest)) }
 {
     let mut bytes = Vec::new(alloc);
-    let Ok(mut piece) = vec![in alloc; 0u8; PIECE] else {
-        return Err(LoadFault::NoMemory);
-    };
     'pieces: while bytes.len() <= limit {
-        match file.read(piece.as_mut_slice()) {
-            Err(_) => return Err(LoadFault::Failed),
+        let most = buffer.len().min(limit + 1 - bytes.len());
+        match read_piece(file, &mut buffer[..most], &mut bytes) {
             Ok(0) => return Ok(bytes),
-            Ok(count) => {
-                let room = limit + 1 - bytes.len();
-                let count = count.min(room);
-                if bytes.extend_from_slice(&piece[..count]).is_err() {
-                    return Err(LoadFault::NoMemory);
-                }
-            }
+            Ok(_) => {}
+            Err(fault) => return Err(fault),
         }
     }
     Ok(bytes)
+}
+
+/// A buffer of this many bytes.
+fn zeros(alloc: Global, len: usize) -> Result<Vec<u8>, AllocError>
+    ensures { IfOk result (λ buffer. vec_len buffer ≡ len) }
+{
+    vec![in alloc; 0u8; len]
 }
 
 enum Opened<F> {
@@ -121,14 +153,61 @@ impl<'a, R: Files> Store for FolderStore<'a, R> {
                 self.faults = self.faults.saturating_add(1);
                 Err(LoadFault::Failed)
             }
-            Opened::File(mut file) => match read_bytes(alloc, &mut file, limit) {
-                Ok(bytes) => Ok(Loaded::Bytes(bytes)),
-                Err(LoadFault::NoMemory) => Err(LoadFault::NoMemory),
-                Err(LoadFault::Failed) => {
-                    self.faults = self.faults.saturating_add(1);
-                    Err(LoadFault::Failed)
+            Opened::File(mut file) => {
+                let Ok(mut buffer) = zeros(alloc, PIECE) else {
+                    return Err(LoadFault::NoMemory);
+                };
+                match read_bytes(alloc, &mut file, buffer.as_mut_slice(), limit) {
+                    Ok(bytes) => Ok(Loaded::Bytes(bytes)),
+                    Err(LoadFault::NoMemory) => Err(LoadFault::NoMemory),
+                    Err(LoadFault::Failed) => {
+                        self.faults = self.faults.saturating_add(1);
+                        Err(LoadFault::Failed)
+                    }
                 }
-            },
+            }
+        }
+    }
+}
+
+#[cfg(test)]
+mod tests {
+    use super::read_bytes;
+    use crate::LoadFault;
+    use std::io;
+    use std::io::{Error, ErrorKind, Read};
+
+    /// A file that gives its bytes one by one, and then fails.
+    #[derive(Drop)]
+    struct Failing {
+        left: u8,
+    }
+
+    impl Read for Failing {
+        fn read(&mut self, buf: &mut [u8]) -> io::Result<usize> {
+            if self.left == 0 {
+                return Err(Error::from(ErrorKind::Other));
+            }
+            if buf.is_empty() {
+                return Ok(0);
+            }
+            buf[0] = self.left;
+            self.left -= 1;
+            Ok(1)
+        }
+    }
+
+    #[test]
+    fn a_read_that_fails_is_no_end_of_the_file(rt: HostRuntime) {
+        for (left, limit, want) in [(3, 3, None), (3, 2, Some(3)), (3, 1, Some(2)), (0, 0, None)] {
+            let mut buffer = [0u8; 4];
+            match read_bytes(rt.alloc(), &mut Failing { left }, &mut buffer, limit) {
+                Ok(bytes) => assert_eq!(rt; Some(bytes.len()), want, "{left} {limit}"),
+                Err(fault) => {
+                    assert_eq!(rt; fault, LoadFault::Failed, "{left} {limit}");
+                    assert_eq!(rt; None, want, "{left} {limit}");
+                }
+            }
         }
     }
 }

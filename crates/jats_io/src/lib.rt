@@ -15,6 +15,7 @@
 #![tactic(auto)]
 
 mod folder_store;
+mod laws;
 mod memory_sink;
 mod memory_store;
 mod sink;
@@ -22,8 +23,11 @@ mod sound_sink;
 mod sound_store;
 mod std_sink;
 mod store;
+#[cfg(test)]
+mod tests;
 
 pub use folder_store::FolderStore;
+pub use laws::{put_law, rose_law};
 pub use memory_sink::MemorySink;
 pub use memory_store::MemoryStore;
 pub use sink::{Sink, WriteFault, write_all};

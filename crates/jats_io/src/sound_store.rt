@@ -64,6 +64,7 @@ impl Store for SoundStore {
         ensures faults { HasCause 0 0 (Failed result) }
         ensures absences { HasCause self.old.absences self.new.absences (Absent result) }
         ensures told { Loads self.old.files name.now limit result }
+        ensures sound { ¬ Failed result }
         ensures exact { LoadsSound self.old self.new name.now limit result }
     {
         match self.files.get(name) {

@@ -1,5 +1,7 @@
 //! Standard output.
 
+ghost use Rattle.std.specs.Prelude.{◌≡◌};
+
 use crate::sink::{Sink, WriteFault};
 use std::io::Print;
 
@@ -11,7 +13,9 @@ pub struct StdSink<'a, R: Print> {
 
 impl<'a, R: Print> StdSink<'a, R> {
     /// The standard output of this runtime, with a count of 0.
-    pub fn new(rt: &'a R) -> StdSink<'a, R> {
+    pub fn new(rt: &'a R) -> StdSink<'a, R>
+        ensures { result.faults ≡ 0 }
+    {
         StdSink { rt, faults: 0 }
     }
 }

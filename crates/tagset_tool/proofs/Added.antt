@@ -3,12 +3,12 @@ use Rattle.std.proofs.Common.{◌≡◌, ◌∙◌, ℕ, zero, suc, ◌+◌, ◌
 use Rattle.std.specs.Prelude.{Option}
 use Rattle.std.specs.List.{AllByRecursion, list_all}
 use Rattle.std.proofs.lemmas.Grind.{common_steps}
-use Rattle.content_models.specs.declared.Content.{Content}
-use Rattle.content_models.specs.declared.Content.TheVariants.{Empty, Mixed}
-use Rattle.content_models.specs.Derives.{among}
+use Rattle.content_models.specs.declared.content.Content.{Content}
+use Rattle.content_models.specs.declared.content.Content.TheVariants.{Mixed}
+use Rattle.content_models.specs.Model.{among}
 use Rattle.decl_set.specs.Declarations.{Declarations, content_in}
 use Rattle.tagset_tool.specs.Reached.{IsReached}
-use Rattle.tagset_tool.specs.Checks.{declared, led, closes, Listed, IsListed, AddsListed, AddsChildren, content_at, unmarked}
+use Rattle.tagset_tool.specs.Checks.{declared, led, closes, listed_in, Listed, IsListed, AddsListed, AddsChildren, content_at, unmarked}
 use Rattle.tagset_tool.proofs.Documents.{child_reached}
 use Rattle.tagset_tool.proofs.Names.{all_push, all_join, among_more, among_kept, among_new, fewer, reached_of}
 
@@ -32,8 +32,7 @@ led_kept first names more (n ∷ ns) all =
 
 pub closes_kept : (first : Declarations) (names more : List (List ℕ)) (o : Option Content) → IsTrue (closes first names o) → IsTrue (closes first (names ++ more) o)
 closes_kept first names more None all = all
-closes_kept first names more (Some Empty) all = all
-closes_kept first names more (Some (Mixed listed)) all = led_kept first names more listed all
+closes_kept first names more (Some content) all = led_kept first names more (listed_in content) all
 
 all_more : (p : List ℕ → Bool) (xs : List (List ℕ)) (i : ℕ) (x : List ℕ) → IsTrue (list_all p (take i xs)) → slice_get xs i ≡ Some x → IsTrue (p x) → IsTrue (list_all p (take (suc i) xs))
 all_more p [] i x all at here = cc

@@ -1,23 +1,25 @@
 -- Declarations that break, and the documents that show it.
-use Rattle.std.proofs.Common.{◌≡◌, ℕ, Bool, true, false, cond, ◌||◌, ◌&&◌, not, List, [], ◌∷◌, Some, None, refl, sym, subst, IsTrue, IsSome, is_some, bytes_eq}
+use Rattle.std.proofs.Common.{◌≡◌, ℕ, Bool, true, false, cond, ◌||◌, ◌&&◌, not, List, [], ◌∷◌, Some, None, refl, sym, subst, IsTrue, IsSome, is_some, bytes_eq, MatchOption}
 use Rattle.std.specs.Prelude.{Option}
 use Rattle.std.specs.List.{AllByRecursion, list_all}
 use Rattle.std.specs.Map.{lookup}
 use Rattle.jats_chars.specs.Names.{is_name}
-use Rattle.content_models.specs.declared.Content.{Content}
-use Rattle.content_models.specs.declared.Content.TheVariants.{Empty, Mixed}
-use Rattle.content_models.specs.Derives.{Derives, among}
+use Rattle.content_models.specs.declared.content.Content.{Content}
+use Rattle.content_models.specs.declared.content.Content.TheVariants.{Empty, Any, Mixed, Children}
+use Rattle.content_models.specs.Model.{Derives, among}
 use Rattle.decl_set.specs.Declarations.{Declarations, Element, content_in}
 use Rattle.document_trees.specs.Trees.{Items, nothing, element, chars, comment, pi, Node, IsWellMade, EachBelow, EachNode, child_names, elements_alone, are_items}
 use Rattle.decl_set.specs.Validity.{IsValid, IsSeparating, IsSubset, Meets, MeetsContent, TextAllowed}
-use Rattle.content_models.specs.Spelling.{text_kind}
+use Rattle.content_models.specs.Kinds.{text_kind}
 use Rattle.document_trees.specs.Trees.{stands_below}
 use Rattle.decl_set.specs.Validity.{HasDocument, IsUseful}
 use Rattle.decl_set.specs.Breaks.{Cause, ContentBreaks, BreaksBy, Breaks, IsKept, IsFirstBroken}
+use Rattle.tagset_tool.specs.Plain.{is_plain, IsPlain, IsPlainIfAny}
 use Rattle.tagset_tool.specs.Reached.{IsReached}
-use Rattle.tagset_tool.specs.Checks.{declared, holds_name, fits_name, Listed, IsFine, IsFineNamed, FirstBreak}
+use Rattle.tagset_tool.specs.Verdicts.{meant}
+use Rattle.tagset_tool.specs.Checks.{text_cause, declared, holds_name, fits_name, Listed, IsFine, IsFineNamed, FirstBreak}
 use Rattle.decl_set.specs.Breaks as cause
-use Rattle.tagset_tool.proofs.Documents.{leaf, leaf_valid, leaf_document, IsClosed, IsNamedIn, below_named, below_fine, children_listed, children_lead, children_documented, fine_meets, meets_some, reached_useful, reached_separates}
+use Rattle.tagset_tool.proofs.Documents.{empty_meets, leaf, leaf_valid, leaf_document, IsClosed, IsNamedIn, below_named, below_fine, children_listed, children_lead, children_documented, fine_meets, meets_some, reached_useful, reached_separates}
 use Rattle.tagset_tool.proofs.Names.{bytes_same, or_other, and_left, and_right, all_among, led_leads, reached_of, declared_in}
 
 and_true : (a : Bool) → IsTrue a → IsTrue (a && true)
@@ -30,11 +32,14 @@ documented_declared first x d = let P : List ℕ → Type 0 = λ y. IsTrue (decl
 abbrev AreHeld : Content → List (List ℕ) → Type 0
 AreHeld b names = AllByRecursion (λ x. IsTrue (holds_name b x)) names
 
-derives_held : (b : Content) (names : List (List ℕ)) → AreHeld b names → Derives b names
-derives_held Empty [] held = refl
-derives_held Empty (x ∷ xs) held = let off : IsTrue false = held.0 in cc
-derives_held (Mixed listed) [] held = refl
-derives_held (Mixed listed) (x ∷ xs) held = let rest : IsTrue (list_all (among listed) xs) = derives_held (Mixed listed) xs held.1 in let here : IsTrue (among listed x) = held.0 in rw (here, rest) refl
+derives_held : (b : Content) (names : List (List ℕ)) → IsTrue (is_plain b) → AreHeld b names → Derives b names
+derives_held Empty [] plain held = refl
+derives_held Empty (x ∷ xs) plain held = let off : IsTrue false = held.0 in cc
+derives_held Any names plain held = tt
+derives_held (Mixed listed) [] plain held = refl
+derives_held (Mixed listed) (x ∷ xs) plain held =
+    let rest : IsTrue (list_all (among listed) xs) = derives_held (Mixed listed) xs plain held.1 in let here : IsTrue (among listed x) = held.0 in rw (here, rest) refl
+derives_held (Children part) names plain held = cc
 
 names_held : (first : Declarations) (listed : List (List ℕ)) (b : Content) (names : List (List ℕ)) → IsTrue (list_all (fits_name first b) listed) → AllByRecursion (HasDocument first) names → IsTrue (list_all (among listed) names)
     → AreHeld b names
@@ -45,25 +50,27 @@ names_held first listed b (x ∷ xs) fits documented all = (
 )
 
 -- where each listed name fits, the content does not break
-pub fits_keeps : (first : Declarations) (listed : List (List ℕ)) (b : Content) → IsTrue (list_all (fits_name first b) listed) → ContentBreaks first (Mixed listed) b → ⊥
-fits_keeps first listed b fits breaks = breaks.3 (derives_held b breaks.0 (names_held first listed b breaks.0 fits breaks.1 breaks.2))
+pub fits_keeps : (first : Declarations) (listed : List (List ℕ)) (b : Content) → IsTrue (is_plain b) → IsTrue (list_all (fits_name first b) listed) → ContentBreaks first (Mixed listed) b → ⊥
+fits_keeps first listed b plain fits breaks = breaks.3 (derives_held b breaks.0 plain (names_held first listed b breaks.0 fits breaks.1 breaks.2))
 
 not_held : (d h : Bool) → not d || h ≡ false → IsTrue d → h ≡ false
 not_held true h e some = e
 not_held false h e some = cc
 
 -- a listed name that does not fit breaks the content
-pub listed_breaks : (first : Declarations) (listed : List (List ℕ)) (b : Content) (n : List ℕ) → Listed first listed n → fits_name first b n ≡ false → ContentBreaks first (Mixed listed) b
-listed_breaks first listed b n at misfit =
-    (n ∷ [], ((leaf n, leaf_document n at.named, leaf_valid first n at.some), tt), and_true (among listed n) at.at, by b (not_held (declared first n) (holds_name b n) misfit at.some))
+pub listed_breaks : (first : Declarations) (listed : List (List ℕ)) (b : Content) (n : List ℕ) → IsTrue (is_plain b) → IsPlainIfAny (content_in first n) → Listed first listed n → fits_name first b n ≡ false → ContentBreaks first (Mixed listed) b
+listed_breaks first listed b n plain leaf_plain at misfit =
+    (n ∷ [], ((leaf n, leaf_document n at.named, leaf_valid first n at.some leaf_plain), tt), and_true (among listed n) at.at, by b plain (not_held (declared first n) (holds_name b n) misfit at.some))
   where
-    by : (b : Content) → holds_name b n ≡ false → Derives b (n ∷ []) → ⊥
-    by Empty misfit d = cc
-    by (Mixed ms) misfit d = let h : IsTrue (among ms n) = and_left (among ms n) true d in cc
+    by : (b : Content) → IsTrue (is_plain b) → holds_name b n ≡ false → Derives b (n ∷ []) → ⊥
+    by Empty plain misfit d = cc
+    by Any plain misfit d = cc
+    by (Children part) plain misfit d = cc
+    by (Mixed ms) plain misfit d = let h : IsTrue (among ms n) = and_left (among ms n) true d in cc
 
 pub mixed_fine : (first : Declarations) (listed ms : List (List ℕ)) → IsTrue (list_all (fits_name first (Mixed ms)) listed) → (k : Cause) → BreaksBy first (Some (Mixed listed)) (Some (Mixed ms)) k → ⊥
 mixed_fine first listed ms fits cause.undeclared breaks = breaks
-mixed_fine first listed ms fits cause.content breaks = fits_keeps first listed (Mixed ms) fits breaks
+mixed_fine first listed ms fits cause.content breaks = fits_keeps first listed (Mixed ms) refl fits breaks
 mixed_fine first listed ms fits cause.text breaks = breaks.1
 
 -- items with these children
@@ -90,7 +97,7 @@ forest first (x ∷ xs) documented =
     }
 
 -- an element that breaks has a document that separates
-module _ (first second : Declarations) (e : List ℕ) (named : IsTrue (is_name e)) where
+module _ (first second : Declarations) (e : List ℕ) (named : IsTrue (is_name e)) (p : IsPlainIfAny (content_in first e)) (q : IsPlainIfAny (content_in second e)) where
   abbrev holding : Items → Node
   holding items = record { name = e; atts = []; items = items }
 
@@ -104,38 +111,39 @@ module _ (first second : Declarations) (e : List ℕ) (named : IsTrue (is_name e
       let P : Option Content → Type 0 = λ o. MeetsContent o [] items in
       (holding items, ((record { named = named; attributes = refl; beside = white }, well), (refl, (subst P (sym is) meets, below)), λ valid. fails (subst P other valid.1.0)))
 
-  text_shown : (a b : Content) → content_in first e ≡ Some a → content_in second e ≡ Some b → BreaksBy first (Some a) (Some b) cause.text → Outcome
-  text_shown Empty Empty is other breaks = absurd breaks.1
-  text_shown Empty (Mixed ms) is other breaks = absurd breaks.1
-  text_shown (Mixed ns) (Mixed ms) is other breaks = absurd breaks.1
-  text_shown (Mixed ns) Empty is other breaks = shown (Some (Mixed ns)) (Some Empty) is other (chars [] false nothing) refl tt tt (refl, tt, refl) (λ m. let off : IsTrue false = m.1 in cc)
+  text_shown : (a b : Content) → content_in first e ≡ Some a → content_in second e ≡ Some b → IsTrue (is_plain a) → IsTrue (is_plain b) → BreaksBy first (Some a) (Some b) cause.text → Outcome
+  text_shown Empty b is other s t breaks = absurd breaks.1
+  text_shown Any b is other s t breaks = cc
+  text_shown (Children part) b is other s t breaks = cc
+  text_shown (Mixed ns) Any is other s t breaks = cc
+  text_shown (Mixed ns) (Children part) is other s t breaks = cc
+  text_shown (Mixed ns) (Mixed ms) is other s t breaks = absurd breaks.1
+  text_shown (Mixed ns) Empty is other s t breaks = shown (Some (Mixed ns)) (Some Empty) is other (chars [] false nothing) refl tt tt (refl, tt, refl) (λ m. let off : IsTrue false = m.1 in cc)
 
-  content_shown : (a b : Content) → content_in first e ≡ Some a → content_in second e ≡ Some b → ContentBreaks first a b → Outcome
-  content_shown a b is other breaks =
+  content_shown : (a b : Content) → content_in first e ≡ Some a → content_in second e ≡ Some b → IsTrue (is_plain a) → ContentBreaks first a b → Outcome
+  content_shown a b is other s breaks =
       let f = forest first breaks.0 breaks.1 in
       let P : List (List ℕ) → Type 0 = λ names. Derives a names in
       let Q : List (List ℕ) → Type 0 = λ names. Derives b names in
-      shown (Some a) (Some b) is other f.items f.white f.well f.meets (subst P (sym f.children) breaks.2, text a f.items f.alone, refl) (λ m. breaks.3 (subst Q f.children m.0))
+      shown (Some a) (Some b) is other f.items f.white f.well f.meets (subst P (sym f.children) breaks.2, text a f.items s f.alone, refl) (λ m. breaks.3 (subst Q f.children m.0))
     where
-      text : (a : Content) (items : Items) → IsTrue (elements_alone items) → TextAllowed (text_kind a) items
-      text Empty items alone = alone
-      text (Mixed ns) items alone = tt
+      text : (a : Content) (items : Items) → IsTrue (is_plain a) → IsTrue (elements_alone items) → TextAllowed (text_kind a) items
+      text Empty items s alone = alone
+      text Any items s alone = tt
+      text (Mixed ns) items s alone = tt
+      text (Children part) items s alone = cc
 
-  breaks_shown : (a b : Option Content) → content_in first e ≡ a → content_in second e ≡ b → (k : Cause) → BreaksBy first a b k → Outcome
-  breaks_shown None b is other k breaks = absurd breaks
-  breaks_shown (Some a) None is other cause.undeclared breaks = shown (Some a) None is other nothing refl tt tt (plain a) (λ m. m)
-    where
-      plain : (a : Content) → MeetsContent (Some a) [] nothing
-      plain Empty = (refl, refl, refl)
-      plain (Mixed ns) = (refl, tt, refl)
-  breaks_shown (Some a) None is other cause.content breaks = absurd breaks
-  breaks_shown (Some a) None is other cause.text breaks = absurd breaks
-  breaks_shown (Some a) (Some b) is other cause.undeclared breaks = absurd breaks
-  breaks_shown (Some a) (Some b) is other cause.content breaks = content_shown a b is other breaks
-  breaks_shown (Some a) (Some b) is other cause.text breaks = text_shown a b is other breaks
+  breaks_shown : (a b : Option Content) → content_in first e ≡ a → content_in second e ≡ b → IsPlainIfAny a → IsPlainIfAny b → (k : Cause) → BreaksBy first a b k → Outcome
+  breaks_shown None b is other s t k breaks = absurd breaks
+  breaks_shown (Some a) None is other s t cause.undeclared breaks = shown (Some a) None is other nothing refl tt tt (empty_meets (Some a) refl s) (λ m. m)
+  breaks_shown (Some a) None is other s t cause.content breaks = absurd breaks
+  breaks_shown (Some a) None is other s t cause.text breaks = absurd breaks
+  breaks_shown (Some a) (Some b) is other s t cause.undeclared breaks = absurd breaks
+  breaks_shown (Some a) (Some b) is other s t cause.content breaks = content_shown a b is other s breaks
+  breaks_shown (Some a) (Some b) is other s t cause.text breaks = text_shown a b is other s t breaks
 
   pub breaks_separates : (k : Cause) → Breaks first second e k → (node : Node) × IsSeparating first second e node
-  breaks_separates k breaks = breaks_shown (content_in first e) (content_in second e) refl refl k breaks
+  breaks_separates k breaks = breaks_shown (content_in first e) (content_in second e) refl refl p q k breaks
 
 -- what stands in a document of closed names is one of them
 stands_named : (names : List (List ℕ)) (e : List ℕ) (items : Items) → EachBelow (IsNamedIn names) items → IsTrue (stands_below e items) → IsTrue (among names e)
@@ -152,19 +160,19 @@ stands_named names e (comment text later) named stands = stands_named names e la
 stands_named names e (pi target body later) named stands = stands_named names e later named stands
 
 -- each node of a document of the root is among the closed names
-nodes_named : (first : Declarations) (root : List ℕ) (names : List (List ℕ)) (node : Node) → IsClosed first names → IsTrue (among names root) → IsValid first root node → EachNode (IsNamedIn names) node
-nodes_named first root names node closed at valid =
+nodes_named : (first : Declarations) (root : List ℕ) (names : List (List ℕ)) (node : Node) → ((n : List ℕ) → IsPlainIfAny (content_in first n)) → IsClosed first names → IsTrue (among names root) → IsValid first root node → EachNode (IsNamedIn names) node
+nodes_named first root names node plain closed at valid =
     let P : List ℕ → Type 0 = λ y. IsTrue (among names y) in
     let here : IsTrue (among names node.name) = subst P (sym valid.0) at in
-    let children = children_listed (content_in first node.name) node.atts node.items valid.1.0 in
-    (here, below_named first names children.0 node.items closed (children_lead first names node.name children.0 closed here children.2) children.1 valid.1.1)
+    let children = children_listed (content_in first node.name) node.atts node.items (plain node.name) valid.1.0 in
+    (here, below_named first names children.0 node.items plain closed (children_lead first names node.name children.0 closed here children.2) children.1 valid.1.1)
 
-pub useful_named : (first : Declarations) (root : List ℕ) (names : List (List ℕ)) (e : List ℕ) → IsClosed first names → IsTrue (among names root) → IsUseful first root e → IsTrue (among names e)
-useful_named first root names e closed at useful = by (bytes_eq e useful.0.name) refl
+pub useful_named : (first : Declarations) (root : List ℕ) (names : List (List ℕ)) (e : List ℕ) → ((n : List ℕ) → IsPlainIfAny (content_in first n)) → IsClosed first names → IsTrue (among names root) → IsUseful first root e → IsTrue (among names e)
+useful_named first root names e plain closed at useful = by (bytes_eq e useful.0.name) refl
   where
     by : (b : Bool) → bytes_eq e useful.0.name ≡ b → IsTrue (among names e)
-    by true same = let P : List ℕ → Type 0 = λ y. IsTrue (among names y) in subst P (sym (bytes_same e useful.0.name same)) (nodes_named first root names useful.0 closed at useful.2).0
-    by false other = stands_named names e useful.0.items (nodes_named first root names useful.0 closed at useful.2).1 (or_other (bytes_eq e useful.0.name) (stands_below e useful.0.items) useful.3 other)
+    by true same = let P : List ℕ → Type 0 = λ y. IsTrue (among names y) in subst P (sym (bytes_same e useful.0.name same)) (nodes_named first root names useful.0 plain closed at useful.2).0
+    by false other = stands_named names e useful.0.items (nodes_named first root names useful.0 plain closed at useful.2).1 (or_other (bytes_eq e useful.0.name) (stands_below e useful.0.items) useful.3 other)
 
 -- the names do not break where no declared one does
 fine_undeclared : (first second : Declarations) (e : List ℕ) (a : Option Content) → is_some a ≡ false → (k : Cause) → BreaksBy first a (content_in second e) k → ⊥
@@ -190,41 +198,74 @@ all_fine first second names e fine at = by (declared first e) refl
     by true some = fine_declared first second names first.elements e fine some at
     by false none = fine_undeclared first second e (content_in first e) none
 
-pub no_break_subset : (first second : Declarations) (root : List ℕ) (names : List (List ℕ)) → IsClosed first names → IsTrue (among names root) → AllByRecursion (IsFineNamed first second names) first.elements → IsSubset first second root
-no_break_subset first second root names closed at fine node separating =
+pub no_break_subset : (first second : Declarations) (root : List ℕ) (names : List (List ℕ)) → ((n : List ℕ) → IsPlainIfAny (content_in first n)) → ((n : List ℕ) → IsPlainIfAny (content_in second n)) → IsClosed first names → IsTrue (among names root) → AllByRecursion (IsFineNamed first second names) first.elements → IsSubset first second root
+no_break_subset first second root names p q closed at fine node separating =
     let valid = separating.1 in
-    let named = nodes_named first root names node closed at valid in
+    let named = nodes_named first root names node p closed at valid in
     let well = separating.0 in
     let documented = children_documented first node.items well.1 valid.1.1 in
     separating.2 (
       valid.0,
       (
-        fine_meets first (content_in first node.name) (content_in second node.name) node.atts node.items (all_fine first second names node.name fine named.0) documented valid.1.0,
-        below_fine first second names node.items (λ e t. all_fine first second names e fine t) well.1 named.1 valid.1.1,
+        fine_meets first (content_in first node.name) (content_in second node.name) node.atts node.items (p node.name) (q node.name) (all_fine first second names node.name fine named.0) documented valid.1.0,
+        below_fine first second names node.items p q (λ e t. all_fine first second names e fine t) well.1 named.1 valid.1.1,
       ),
     )
 
-kept_before : (first second : Declarations) (root : List ℕ) (names : List (List ℕ)) (es : List Element) → IsClosed first names → IsTrue (among names root) → AllByRecursion (IsFineNamed first second names) es → AllByRecursion (IsKept first second root) es
-kept_before first second root names [] closed at fine = tt
-kept_before first second root names (e ∷ es) closed at fine = ((λ useful. fine.0 (useful_named first root names e.0 closed at useful)), kept_before first second root names es closed at fine.1)
+kept_before : (first second : Declarations) (root : List ℕ) (names : List (List ℕ)) (es : List Element) → ((n : List ℕ) → IsPlainIfAny (content_in first n)) → IsClosed first names → IsTrue (among names root) → AllByRecursion (IsFineNamed first second names) es → AllByRecursion (IsKept first second root) es
+kept_before first second root names [] plain closed at fine = tt
+kept_before first second root names (e ∷ es) plain closed at fine =
+    ((λ useful. fine.0 (useful_named first root names e.0 plain closed at useful)), kept_before first second root names es plain closed at fine.1)
 
 breaks_some : (first : Declarations) (a b : Option Content) (k : Cause) → BreaksBy first a b k → IsSome a
 breaks_some first None b k breaks = absurd breaks
 breaks_some first (Some a) b k breaks = refl
 
-pub break_above : (first second : Declarations) (root : List ℕ) (names : List (List ℕ)) (e : List ℕ) (k : Cause) → IsClosed first names → IsTrue (among names root) → AllByRecursion (IsReached first root) names → FirstBreak first second names e k
+pub break_above : (first second : Declarations) (root : List ℕ) (names : List (List ℕ)) (e : List ℕ) (k : Cause) → ((n : List ℕ) → IsPlainIfAny (content_in first n)) → ((n : List ℕ) → IsPlainIfAny (content_in second n)) → IsClosed first names → IsTrue (among names root) → AllByRecursion (IsReached first root) names → FirstBreak first second names e k
     → ((node : Node) × IsSeparating first second root node) × IsFirstBroken first second root e k
-break_above first second root names e k closed at reached first_break =
+break_above first second root names e k p q closed at reached first_break =
     let here = reached_of first root names e reached first_break.here in
-    let inner = breaks_separates first second e here.named k first_break.breaks in (
+    let inner = breaks_separates first second e here.named (p e) (q e) k first_break.breaks in (
       reached_separates first second root e inner.0 here inner.1,
       record {
         before = first_break.before;
         declared = first_break.declared;
         after = first_break.after;
         place = first_break.place;
-        kept = kept_before first second root names first_break.before closed at first_break.fine;
-        useful = reached_useful first root e here (breaks_some first (content_in first e) (content_in second e) k first_break.breaks);
+        kept = kept_before first second root names first_break.before p closed at first_break.fine;
+        useful = reached_useful first root e here (breaks_some first (content_in first e) (content_in second e) k first_break.breaks) (p e);
         breaks = first_break.breaks;
       },
     )
+
+-- where all contents are plain, so is that of each name
+plain_found : (es : List Element) (n : List ℕ) → AllByRecursion (λ (e : Element). IsTrue (is_plain e.1)) es → IsPlainIfAny (lookup (bytes_eq n) es)
+plain_found [] n all = tt
+plain_found (x ∷ xs) n all =
+    elim (bytes_eq n x.0) as (λ b. IsPlainIfAny (cond b (Some x.1) (lookup (bytes_eq n) xs))) [ true ↦ all.0 | false ↦ plain_found xs n all.1 ]
+
+pub plain_in : (set : Declarations) → IsPlain set → (n : List ℕ) → IsPlainIfAny (content_in set n)
+plain_in set all n = plain_found set.elements n all
+
+-- EMPTY breaks in no plain content
+pub empty_fine : (first : Declarations) (b : Content) → IsTrue (is_plain b) → (k : Cause) → BreaksBy first (Some Empty) (Some b) k → ⊥
+empty_fine first b plain cause.undeclared breaks = breaks
+empty_fine first b plain cause.content breaks = by b plain (let P : List (List ℕ) → Type 0 = λ names. Derives b names → ⊥ in subst P breaks.2 breaks.3)
+  where
+    by : (b : Content) → IsTrue (is_plain b) → (Derives b [] → ⊥) → ⊥
+    by Empty plain out = out refl
+    by Any plain out = out tt
+    by (Mixed listed) plain out = out refl
+    by (Children part) plain out = cc
+empty_fine first b plain cause.text breaks = breaks.1
+
+-- where each listed name fits, only text may break the content
+pub text_decides : (first : Declarations) (listed : List (List ℕ)) (b : Content) → IsTrue (is_plain b) → IsTrue (list_all (fits_name first b) listed)
+    → MatchOption (text_cause b) ((k : Cause) → BreaksBy first (Some (Mixed listed)) (Some b) k → ⊥) (λ k. BreaksBy first (Some (Mixed listed)) (Some b) (meant k))
+text_decides first listed Empty plain fits = (fits_keeps first listed Empty refl fits, tt)
+text_decides first listed Any plain fits = cc
+text_decides first listed (Mixed ms) plain fits = mixed_fine first listed ms fits
+text_decides first listed (Children part) plain fits = cc
+
+pub plain_some : (set : Declarations) → IsPlain set → (n : List ℕ) (c : Content) → Some c ≡ content_in set n → IsTrue (is_plain c)
+plain_some set all n c is = subst IsPlainIfAny (sym is) (plain_in set all n)

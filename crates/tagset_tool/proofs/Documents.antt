@@ -4,15 +4,16 @@ use Rattle.std.specs.Prelude.{Option}
 use Rattle.std.specs.List.{AllByRecursion, list_all}
 use Rattle.std.specs.Cmp.Lexicographic.{nat_list_eq_equiv}
 use Rattle.jats_chars.specs.Names.{is_name}
-use Rattle.content_models.specs.declared.Content.{Content}
-use Rattle.content_models.specs.declared.Content.TheVariants.{Empty, Mixed}
-use Rattle.content_models.specs.Derives.{among}
+use Rattle.content_models.specs.declared.content.Content.{Content}
+use Rattle.content_models.specs.declared.content.Content.TheVariants.{Empty, Any, Mixed, Children}
+use Rattle.content_models.specs.Model.{among}
 use Rattle.decl_set.specs.Declarations.{Declarations, content_in}
 use Rattle.document_trees.specs.Trees.{Items, nothing, element, chars, comment, pi, Node, IsDocument, IsWellMade, EachBelow, child_names}
 use Rattle.decl_set.specs.Validity.{IsValid, IsSeparating, Meets, MeetsContent}
 use Rattle.document_trees.specs.Trees.{stands_below}
 use Rattle.decl_set.specs.Validity.{HasDocument, IsUseful}
 use Rattle.decl_set.specs.Breaks.{Cause, ContentBreaks, BreaksBy, Breaks}
+use Rattle.tagset_tool.specs.Plain.{IsPlainIfAny}
 use Rattle.tagset_tool.specs.Reached.{Around, IsReached}
 use Rattle.tagset_tool.specs.Checks.{IsFine}
 use Rattle.decl_set.specs.Breaks as cause
@@ -21,13 +22,15 @@ use Rattle.decl_set.specs.Breaks as cause
 abbrev pub leaf : List ℕ → Node
 leaf e = record { name = e; atts = []; items = nothing }
 
-empty_meets : (o : Option Content) → IsSome o → MeetsContent o [] nothing
-empty_meets None some = cc
-empty_meets (Some Empty) some = (refl, refl, refl)
-empty_meets (Some (Mixed listed)) some = (refl, tt, refl)
+pub empty_meets : (o : Option Content) → IsSome o → IsPlainIfAny o → MeetsContent o [] nothing
+empty_meets None some plain = cc
+empty_meets (Some Empty) some plain = (refl, refl, refl)
+empty_meets (Some Any) some plain = (tt, tt, refl)
+empty_meets (Some (Mixed listed)) some plain = (refl, tt, refl)
+empty_meets (Some (Children part)) some plain = cc
 
-pub leaf_valid : (set : Declarations) (e : List ℕ) → IsSome (content_in set e) → IsValid set e (leaf e)
-leaf_valid set e some = (refl, (empty_meets (content_in set e) some, tt))
+pub leaf_valid : (set : Declarations) (e : List ℕ) → IsSome (content_in set e) → IsPlainIfAny (content_in set e) → IsValid set e (leaf e)
+leaf_valid set e some plain = (refl, (empty_meets (content_in set e) some plain, tt))
 
 pub leaf_document : (e : List ℕ) → IsTrue (is_name e) → IsDocument (leaf e)
 leaf_document e named = (record { named = named; attributes = refl; beside = refl }, tt)
@@ -77,9 +80,9 @@ child_reached first root e n listed reached is here named = record {
 }
 
 -- a reached element that is declared stands in a document of the root
-pub reached_useful : (first : Declarations) (root e : List ℕ) → IsReached first root e → IsSome (content_in first e) → IsUseful first root e
-reached_useful first root e reached some =
-    let around = reached.wraps (leaf e) (leaf_document e reached.named) (leaf_valid first e some) in
+pub reached_useful : (first : Declarations) (root e : List ℕ) → IsReached first root e → IsSome (content_in first e) → IsPlainIfAny (content_in first e) → IsUseful first root e
+reached_useful first root e reached some plain =
+    let around = reached.wraps (leaf e) (leaf_document e reached.named) (leaf_valid first e some plain) in
     (around.node, around.document, around.valid, around.stands e (or_false (bytes_eq e e) (nat_list_eq_equiv.refl e)))
 
 -- a document of the reached element that is none of the second gives one of the root
@@ -111,11 +114,13 @@ meets_some None atts items meets = absurd meets
 meets_some (Some content) atts items meets = refl
 
 -- the names listed for the children of what meets its content
-pub children_listed : (o : Option Content) (atts : List (List ℕ × List ℕ)) (items : Items) → MeetsContent o atts items
+pub children_listed : (o : Option Content) (atts : List (List ℕ × List ℕ)) (items : Items) → IsPlainIfAny o → MeetsContent o atts items
     → (listed : List (List ℕ)) × IsTrue (list_all (among listed) (child_names items)) × (o ≡ Some (Mixed listed) ⊎ listed ≡ [])
-children_listed None atts items meets = absurd meets
-children_listed (Some Empty) atts items meets = ([], rw meets.0 refl, inr refl)
-children_listed (Some (Mixed listed)) atts items meets = (listed, meets.0, inl refl)
+children_listed None atts items plain meets = absurd meets
+children_listed (Some Empty) atts items plain meets = ([], rw meets.0 refl, inr refl)
+children_listed (Some Any) atts items plain meets = cc
+children_listed (Some (Mixed listed)) atts items plain meets = (listed, meets.0, inl refl)
+children_listed (Some (Children part)) atts items plain meets = cc
 
 -- closed names lead from each of them to its children
 pub children_lead : (first : Declarations) (names : List (List ℕ)) (e : List ℕ) (listed : List (List ℕ)) → IsClosed first names → IsTrue (among names e) → (content_in first e ≡ Some (Mixed listed) ⊎ listed ≡ [])
@@ -123,19 +128,19 @@ pub children_lead : (first : Declarations) (names : List (List ℕ)) (e : List �
 children_lead first names e listed closed here (inl is) = λ n at some. closed.child e n listed here is at some
 children_lead first names e listed closed here (inr none) = λ n at some. let P : List (List ℕ) → Type 0 = λ l. IsTrue (among l n) in let no : IsTrue (among [] n) = subst P none at in cc
 
-pub below_named : (first : Declarations) (names listed : List (List ℕ)) (items : Items) → IsClosed first names → Leads first names listed → IsTrue (list_all (among listed) (child_names items)) → EachBelow (Meets first) items
+pub below_named : (first : Declarations) (names listed : List (List ℕ)) (items : Items) → ((n : List ℕ) → IsPlainIfAny (content_in first n)) → IsClosed first names → Leads first names listed → IsTrue (list_all (among listed) (child_names items)) → EachBelow (Meets first) items
     → EachBelow (IsNamedIn names) items
-below_named first names listed nothing closed leads all meets = tt
-below_named first names listed (element name atts inside later) closed leads all meets =
+below_named first names listed nothing ps closed leads all meets = tt
+below_named first names listed (element name atts inside later) ps closed leads all meets =
     let here : IsTrue (among names name) = leads name (and_left (among listed name) (list_all (among listed) (child_names later)) all) (meets_some (content_in first name) atts inside meets.0) in
-    let children = children_listed (content_in first name) atts inside meets.0 in (
+    let children = children_listed (content_in first name) atts inside (ps name) meets.0 in (
       here,
-      below_named first names children.0 inside closed (children_lead first names name children.0 closed here children.2) children.1 meets.1,
-      below_named first names listed later closed leads (and_right (among listed name) (list_all (among listed) (child_names later)) all) meets.2,
+      below_named first names children.0 inside ps closed (children_lead first names name children.0 closed here children.2) children.1 meets.1,
+      below_named first names listed later ps closed leads (and_right (among listed name) (list_all (among listed) (child_names later)) all) meets.2,
     )
-below_named first names listed (chars text plain later) closed leads all meets = below_named first names listed later closed leads all meets
-below_named first names listed (comment text later) closed leads all meets = below_named first names listed later closed leads all meets
-below_named first names listed (pi target body later) closed leads all meets = below_named first names listed later closed leads all meets
+below_named first names listed (chars text plain later) ps closed leads all meets = below_named first names listed later ps closed leads all meets
+below_named first names listed (comment text later) ps closed leads all meets = below_named first names listed later ps closed leads all meets
+below_named first names listed (pi target body later) ps closed leads all meets = below_named first names listed later ps closed leads all meets
 
 -- each child of what is valid below has a document
 pub children_documented : (first : Declarations) (items : Items) → EachBelow IsWellMade items → EachBelow (Meets first) items → AllByRecursion (HasDocument first) (child_names items)
@@ -147,27 +152,31 @@ children_documented first (comment text later) well meets = children_documented 
 children_documented first (pi target body later) well meets = children_documented first later well meets
 
 -- a node of an element that does not break meets the second set
-pub fine_meets : (first : Declarations) (a b : Option Content) (atts : List (List ℕ × List ℕ)) (items : Items) → ((k : Cause) → BreaksBy first a b k → ⊥) → AllByRecursion (HasDocument first) (child_names items) → MeetsContent a atts items
-    → MeetsContent b atts items
-fine_meets first None b atts items fine documented meets = absurd meets
-fine_meets first (Some a) None atts items fine documented meets = absurd (fine cause.undeclared tt)
-fine_meets first (Some Empty) (Some Empty) atts items fine documented meets = meets
-fine_meets first (Some Empty) (Some (Mixed ms)) atts items fine documented meets = (rw meets.0 refl, tt, meets.2)
-fine_meets first (Some (Mixed ns)) (Some Empty) atts items fine documented meets = absurd (fine cause.text (fine cause.content, tt))
-fine_meets first (Some (Mixed ns)) (Some (Mixed ms)) atts items fine documented meets = (by (list_all (among ms) (child_names items)) refl, tt, meets.2)
+pub fine_meets : (first : Declarations) (a b : Option Content) (atts : List (List ℕ × List ℕ)) (items : Items) → IsPlainIfAny a → IsPlainIfAny b → ((k : Cause) → BreaksBy first a b k → ⊥)
+    → AllByRecursion (HasDocument first) (child_names items) → MeetsContent a atts items → MeetsContent b atts items
+fine_meets first None b atts items p q fine documented meets = absurd meets
+fine_meets first (Some a) None atts items p q fine documented meets = absurd (fine cause.undeclared tt)
+fine_meets first (Some Any) (Some b) atts items p q fine documented meets = cc
+fine_meets first (Some (Children part)) (Some b) atts items p q fine documented meets = cc
+fine_meets first (Some a) (Some Any) atts items p q fine documented meets = cc
+fine_meets first (Some a) (Some (Children part)) atts items p q fine documented meets = cc
+fine_meets first (Some Empty) (Some Empty) atts items p q fine documented meets = meets
+fine_meets first (Some Empty) (Some (Mixed ms)) atts items p q fine documented meets = (rw meets.0 refl, tt, meets.2)
+fine_meets first (Some (Mixed ns)) (Some Empty) atts items p q fine documented meets = absurd (fine cause.text (fine cause.content, tt))
+fine_meets first (Some (Mixed ns)) (Some (Mixed ms)) atts items p q fine documented meets = (by (list_all (among ms) (child_names items)) refl, tt, meets.2)
   where
     by : (t : Bool) → list_all (among ms) (child_names items) ≡ t → IsTrue (list_all (among ms) (child_names items))
     by true e = e
     by false e = absurd (fine cause.content (child_names items, documented, meets.0, λ d. let no : IsTrue false = sym e ∙ d in cc))
 
-pub below_fine : (first second : Declarations) (names : List (List ℕ)) (items : Items) → ((e : List ℕ) → IsTrue (among names e) → IsFine first second e) → EachBelow IsWellMade items → EachBelow (IsNamedIn names) items
+pub below_fine : (first second : Declarations) (names : List (List ℕ)) (items : Items) → ((n : List ℕ) → IsPlainIfAny (content_in first n)) → ((n : List ℕ) → IsPlainIfAny (content_in second n)) → ((e : List ℕ) → IsTrue (among names e) → IsFine first second e) → EachBelow IsWellMade items → EachBelow (IsNamedIn names) items
     → EachBelow (Meets first) items → EachBelow (Meets second) items
-below_fine first second names nothing fine well named meets = tt
-below_fine first second names (element name atts inside later) fine well named meets = (
-  fine_meets first (content_in first name) (content_in second name) atts inside (fine name named.0) (children_documented first inside well.1 meets.1) meets.0,
-  below_fine first second names inside fine well.1 named.1 meets.1,
-  below_fine first second names later fine well.2 named.2 meets.2,
+below_fine first second names nothing p q fine well named meets = tt
+below_fine first second names (element name atts inside later) p q fine well named meets = (
+  fine_meets first (content_in first name) (content_in second name) atts inside (p name) (q name) (fine name named.0) (children_documented first inside well.1 meets.1) meets.0,
+  below_fine first second names inside p q fine well.1 named.1 meets.1,
+  below_fine first second names later p q fine well.2 named.2 meets.2,
 )
-below_fine first second names (chars text plain later) fine well named meets = below_fine first second names later fine well named meets
-below_fine first second names (comment text later) fine well named meets = below_fine first second names later fine well named meets
-below_fine first second names (pi target body later) fine well named meets = below_fine first second names later fine well named meets
+below_fine first second names (chars text plain later) p q fine well named meets = below_fine first second names later p q fine well named meets
+below_fine first second names (comment text later) p q fine well named meets = below_fine first second names later p q fine well named meets
+below_fine first second names (pi target body later) p q fine well named meets = below_fine first second names later p q fine well named meets

@@ -8,4 +8,5 @@ pub mod Names
 pub mod Breaks
 pub mod OneOutput
 pub mod Places
+pub mod PlainContents
 pub mod SoundRuns

@@ -2,7 +2,7 @@
 use Rattle.std.proofs.Common.{◌≡◌, ◌∙◌, ℕ, List, [], ◌∷◌, ◌++◌, sym, ap, subst, Some, None, Ok, Err, refl}
 use Rattle.std.specs.Prelude.{Option, Result}
 use Rattle.std.specs.List.{AllByRecursion}
-use Rattle.content_models.specs.declared.Content.{Content}
+use Rattle.content_models.specs.declared.content.Content.{Content}
 use Rattle.decl_set.specs.Declarations.{Declarations, content_in}
 use Rattle.decl_set.specs.Breaks.{Cause, IsKept, IsFirstBroken, Breaks, BreaksBy}
 use Rattle.tagset_tool.specs.Verdicts.{IsVerdict, meant}

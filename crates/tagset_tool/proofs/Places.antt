@@ -2,8 +2,8 @@
 use Rattle.std.proofs.Common.{◌≡◌, ◌∙◌, ℕ, zero, suc, List, [], ◌∷◌, ◌++◌, take, drop, Some, None, refl, sym, ap, subst, IsTrue, slice_get}
 use Rattle.std.specs.Prelude.{Option, option_map}
 use Rattle.std.specs.List.{AllByRecursion}
-use Rattle.content_models.specs.declared.Content.{Content}
-use Rattle.content_models.specs.Derives.{among}
+use Rattle.content_models.specs.declared.content.Content.{Content}
+use Rattle.content_models.specs.Model.{among}
 use Rattle.decl_set.specs.Declarations.{Declarations, name_of}
 use Rattle.decl_set.specs.Breaks.{Cause, Breaks}
 use Rattle.tagset_tool.specs.Checks.{IsFine, IsFineNamed, FirstBreak, FineAt, BreakAt}

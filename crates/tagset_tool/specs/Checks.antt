@@ -2,21 +2,29 @@
 use Rattle.std.specs.Prelude.{◌≡◌, ℕ, ◌+◌, ◌≤◌, length, if◌then◌else◌, Bool, true, false, not, ◌||◌, List, ◌∷◌, ◌++◌, Option, Some, None, is_some, IsTrue, slice_get, []}
 use Rattle.std.specs.List.{list_all, AllByRecursion}
 use Rattle.jats_chars.specs.Names.{is_name}
-use Rattle.content_models.specs.declared.Content.{Content}
-use Rattle.content_models.specs.declared.Content.TheVariants.{Empty, Mixed}
-use Rattle.content_models.specs.Derives.{among}
+use Rattle.content_models.specs.declared.content.Content.{Content}
+use Rattle.content_models.specs.declared.content.Content.TheVariants.{Empty, Any, Mixed, Children}
+use Rattle.content_models.specs.Model.{among}
 use Rattle.decl_set.specs.Declarations.{Declarations, Element, content_in}
 use Rattle.decl_set.specs.Breaks.{Breaks}
 use Rattle.decl_set.specs.Breaks.{Cause}
+use Rattle.tagset_tool.specs.declared.comparison.Cause.{Cause as Given}
+use Rattle.tagset_tool.specs.declared.comparison.Cause.TheVariants as given
 
 -- whether the set declares the element
 abbrev pub declared : Declarations → List ℕ → Bool
 declared set e = is_some (content_in set e)
 
+-- the names that a content lists
+abbrev pub listed_in : Content → List (List ℕ)
+listed_in Empty = []
+listed_in Any = []
+listed_in (Mixed listed) = listed
+listed_in (Children part) = []
+
 -- whether the content lists the name
 abbrev pub holds_name : Content → List ℕ → Bool
-holds_name Empty name = false
-holds_name (Mixed listed) name = among listed name
+holds_name content name = among (listed_in content) name
 
 -- the content has the name, or the first set does not declare it
 abbrev pub fits_name : Declarations → Content → List ℕ → Bool
@@ -29,8 +37,7 @@ led first names name = not (declared first name) || among names name
 -- the names have all children of an element with this content
 abbrev pub closes : Declarations → List (List ℕ) → Option Content → Bool
 closes first names None = true
-closes first names (Some Empty) = true
-closes first names (Some (Mixed listed)) = list_all (led first names) listed
+closes first names (Some content) = list_all (led first names) (listed_in content)
 
 -- the names have all children of each of them
 abbrev pub is_closed : Declarations → List (List ℕ) → Bool
@@ -102,3 +109,10 @@ pub record BreakAt (first second : Declarations) (names : List (List ℕ)) (at :
   pub place : slice_get first.elements at ≡ Some (name, declared)
   pub here : IsTrue (among names name)
   pub breaks : Breaks first second name k
+
+-- why a mixed content whose names all stand in the other one breaks
+abbrev pub text_cause : Content → Option Given
+text_cause Empty = Some given.Text
+text_cause Any = None
+text_cause (Mixed listed) = None
+text_cause (Children part) = None

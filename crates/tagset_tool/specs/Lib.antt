@@ -3,8 +3,10 @@ pub mod Law
 pub mod Lines
 pub mod Outcomes
 pub mod Output
+pub mod Plain
 pub mod Reached
 pub mod Reading
 pub mod Runs
 pub mod Sound
+pub mod Spaces
 pub mod Verdicts

@@ -1,7 +1,7 @@
 -- What the program writes, and its status.
 use Rattle.std.specs.Prelude.{◌≡◌, ℕ, ◌==◌, ◌&&◌, List, [], ◌∷◌, ◌++◌, length, Option, Some, None, Result, Ok, Err, bytes_eq, codes, encode_utf8_all, slice_index_or, if◌then◌else◌}
 use Rattle.jats_chars.specs.Names.{is_name}
-use Rattle.content_models.specs.declared.Content.{Content}
+use Rattle.content_models.specs.declared.content.Content.{Content}
 use Rattle.decl_set.specs.Declarations.{Declarations, content_in}
 use Rattle.tagset_tool.specs.declared.comparison.Cause.{Cause}
 use Rattle.tagset_tool.specs.declared.comparison.Cause.TheVariants as cause

@@ -4,8 +4,9 @@ use Rattle.std.specs.List.{starts_with}
 use Rattle.std.specs.Option.{option_map_or}
 use Rattle.jats_chars.specs.Names.{is_name}
 use Rattle.jats_io.specs.Loads.{held}
-use Rattle.content_models.specs.declared.Content.{Content}
-use Rattle.content_models.specs.Spelling.{content_of, spaces, trimmed}
+use Rattle.content_models.specs.declared.content.Content.{Content}
+use Rattle.tagset_tool.specs.Plain.{plain_content}
+use Rattle.tagset_tool.specs.Spaces.{spaces, trimmed}
 use Rattle.decl_set.specs.Declarations.{Declarations, content_in, none_declared}
 use Rattle.tagset_tool.specs.declared.scan.Element.{Element}
 use Rattle.tagset_tool.specs.declared.lines.Refusal.{Refusal}
@@ -17,7 +18,7 @@ abbrev pub spaces_after : List ℕ → ℕ
 spaces_after text = unwrap_or (position is_space text) (length text)
 
 abbrev pub content_after : List ℕ → Option Content
-content_after rest = if nat_lt 0 (spaces rest) then content_of (trimmed rest) else None
+content_after rest = if nat_lt 0 (spaces rest) then plain_content (trimmed rest) else None
 
 abbrev pub with_content : List ℕ → Option Content → Option Element
 with_content name None = None

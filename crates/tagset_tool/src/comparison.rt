@@ -4,8 +4,9 @@ ghost use Rattle.std.specs.Prelude.{◌≡◌, IfOk, OnOk, IsSome, Some, MatchOp
 ghost use Rattle.std.specs.Option.{option_copied};
 ghost use Rattle.std.specs.List.{list_all, AllByRecursion};
 ghost use Rattle.jats_chars.specs.Names.{is_name};
-ghost use Rattle.content_models.specs.Derives.{among};
+ghost use Rattle.content_models.specs.Model.{among};
 ghost use Rattle.tagset_tool.specs.Checks as spec;
+ghost use Rattle.tagset_tool.specs.Plain.{is_plain, IsPlain};
 ghost use Rattle.tagset_tool.specs.Reached.{IsReached};
 ghost use Rattle.decl_set.specs.Declarations.{content_in};
 ghost use Rattle.decl_set.specs.Validity.{HasDocument};
@@ -55,8 +56,8 @@ fn holds_name(content: &Content, name: &Name) -> bool
     ensures { result ≡ spec.holds_name content.now name.now }
 {
     match content {
-        Content::Empty => false,
         Content::Mixed(listed) => is_among(listed.as_slice(), name),
+        _ => false,
     }
 }
 
@@ -83,21 +84,36 @@ fn uncovered<'a>(first: &DeclSet, listed: &'a [Name], content: &Content) -> Opti
 
 /// Why an element with the one content in the first set, and the other in the second, breaks.
 fn content_cause(first: &DeclSet, one: &Content, other: &Content) -> Option<Cause>
+    requires first { IsPlain first.now }
+    requires one { IsTrue (is_plain one.now) }
+    requires other { IsTrue (is_plain other.now) }
     ensures { MatchOption result ((k : Reason) → BreaksBy first.now (Some one.now) (Some other.now) k → ⊥) (λ k. BreaksBy first.now (Some one.now) (Some other.now) (meant k)) }
 {
     match one {
         Content::Empty => None,
+        Content::Any => None,
+        Content::Children(_) => None,
         Content::Mixed(listed) => match uncovered(first, listed.as_slice(), other) {
             Some(_) => Some(Cause::Content),
-            None => match other {
-                Content::Empty => Some(Cause::Text),
-                Content::Mixed(_) => None,
-            },
+            None => text_cause(other),
         },
     }
 }
 
+/// Why a mixed content whose names all stand in the other one breaks.
+fn text_cause(other: &Content) -> Option<Cause>
+    requires { IsTrue (is_plain other.now) }
+    ensures { result ≡ spec.text_cause other.now }
+{
+    match other {
+        Content::Empty => Some(Cause::Text),
+        _ => None,
+    }
+}
+
 fn cause_of(first: &DeclSet, second: &DeclSet, name: &Name) -> Option<Cause>
+    requires first { IsPlain first.now }
+    requires second { IsPlain second.now }
     ensures { MatchOption result (spec.IsFine first.now second.now name.now) (λ k. Breaks first.now second.now name.now (meant k)) }
 {
     match first.content_of(name) {
@@ -146,9 +162,8 @@ fn add_children(
     ensures { OnOk result (spec.AddsChildren first.now (option_copied content.entry) names.old names.new) }
 {
     match content {
-        None => Ok(()),
-        Some(Content::Empty) => Ok(()),
         Some(Content::Mixed(listed)) => add_listed(alloc, first, names, listed.as_slice()),
+        _ => Ok(()),
     }
 }
 
@@ -182,6 +197,8 @@ fn useful_names(alloc: Global, first: &DeclSet, root: &Name) -> Result<NameSet, 
 
 /// Why the name breaks, where it is one of the names.
 fn named_cause(first: &DeclSet, second: &DeclSet, names: &NameSet, name: &Name) -> Option<Cause>
+    requires first { IsPlain first.now }
+    requires second { IsPlain second.now }
     ensures { MatchOption result (IsTrue (among names.now name.now) → spec.IsFine first.now second.now name.now) (λ k. IsTrue (among names.now name.now) × Breaks first.now second.now name.now (meant k)) }
 {
     if names.contains(name) {
@@ -198,6 +215,8 @@ fn break_at<'a>(
     names: &NameSet,
     at: usize,
 ) -> Option<(&'a Name, Cause)>
+    requires first { IsPlain first.now }
+    requires second { IsPlain second.now }
     ensures { MatchOption result (spec.FineAt first.now second.now names.now at) (λ p. spec.BreakAt first.now second.now names.now at p.0.now (meant p.1)) }
 {
     match first.name_at(at) {
@@ -216,6 +235,8 @@ fn first_broken(
     second: &DeclSet,
     names: &NameSet,
 ) -> Result<Option<BrokenDecl>, NoMemory>
+    requires first { IsPlain first.now }
+    requires second { IsPlain second.now }
     ensures { IfOk result (λ o. MatchOption o (AllByRecursion (spec.IsFineNamed first.now second.now names.now) first.now.elements) (λ d. spec.FirstBreak first.now second.now names.now d.element (meant d.cause))) }
 {
     for i in 0..first.count() {
@@ -234,7 +255,9 @@ pub fn compare(
     second: &DeclSet,
     root: &Name,
 ) -> Result<Verdict, NoMemory>
-    requires { IsSome (content_in first.now root.now) }
+    requires root { IsSome (content_in first.now root.now) }
+    requires first { IsPlain first.now }
+    requires second { IsPlain second.now }
     ensures verdict { IfOk result (λ v. IsVerdict first.now second.now root.now v) }
     ensures document { HasDocument first.now root.now }
 {
@@ -248,6 +271,8 @@ fn verdict_of(
     second: &DeclSet,
     root: &Name,
 ) -> Result<Verdict, NoMemory>
+    requires first { IsPlain first.now }
+    requires second { IsPlain second.now }
     ensures { IfOk result (λ v. IsVerdict first.now second.now root.now v) }
 {
     let names = useful_names(alloc, first, root)?;

@@ -14,6 +14,7 @@ mod read;
 mod rows;
 mod scan;
 mod sound;
+mod space;
 mod top;
 
 pub use comparison::{BrokenDecl, Cause, Verdict, compare};

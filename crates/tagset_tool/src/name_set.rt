@@ -2,7 +2,7 @@
 
 ghost use Rattle.std.specs.Prelude.{◌≡◌, ◌<◌, [], ◌∷◌, ◌++◌, length, slice_get, OnOk, OnErr, OnSome, false};
 ghost use Rattle.std.specs.Option.{option_copied};
-ghost use Rattle.content_models.specs.Derives.{among};
+ghost use Rattle.content_models.specs.Model.{among};
 
 use indexmap::IndexSet;
 use jats_chars::{Name, NoMemory};

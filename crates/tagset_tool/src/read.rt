@@ -5,11 +5,12 @@ ghost use Rattle.std.specs.Bool.{OnTrue};
 ghost use Rattle.tagset_tool.specs.Reading as spec;
 ghost use Rattle.jats_io.specs.Causes.{HasCause};
 ghost use Rattle.decl_set.specs.Declarations.{none_declared};
+ghost use Rattle.tagset_tool.specs.Plain.{IsPlain};
 ghost use Rattle.tagset_tool.specs.Outcomes.{LoadFailed, IsAbsence, Reads};
 
 use crate::lines::Refusal;
 use crate::scan::{Element, declared_at};
-use content_models::spaces;
+use crate::space::spaces;
 use decl_set::{DeclFault, DeclSet};
 use jats_chars::{NoMemory, Text};
 use jats_io::{LoadFault, Loaded, Store};
@@ -112,6 +113,7 @@ pub fn parse_module(alloc: Global, bytes: &[u8]) -> Result<Result<DeclSet, u64>,
 }
 
 fn set_of_bytes(alloc: Global, file: &Text, bytes: &[u8]) -> Result<DeclSet, ReadFault>
+    ensures plain { IfOk result (λ s. IsPlain s) }
     ensures load { LoadFailed result → ⊥ }
     ensures absence { IsAbsence result → ⊥ }
     ensures outcome { Reads (spec.refused_at file.now (spec.parsed bytes.now)) result }
@@ -129,6 +131,7 @@ fn set_of_bytes(alloc: Global, file: &Text, bytes: &[u8]) -> Result<DeclSet, Rea
 /// The set of a file by its name.
 pub fn read_set<S: Store>(alloc: Global, store: &mut S, file: &Text) -> Result<DeclSet, ReadFault>
     ensures keeps { S.holds store.new ≡ S.holds store.old }
+    ensures plain { IfOk result (λ s. IsPlain s) }
     ensures faults { HasCause (S.faults store.old) (S.faults store.new) (LoadFailed result) }
     ensures absences { HasCause (S.absences store.old) (S.absences store.new) (IsAbsence result) }
     ensures told { IfSome (S.holds store.old) (λ files. Reads (spec.set_of files file.now) result) }

@@ -1,10 +1,12 @@
 //! Declarations in a text.
 
-ghost use Rattle.std.specs.Prelude.{◌≡◌, ◌==◌, ◌+◌, ◌<◌, ◌≤◌, IfOk, IfSome, length, take, drop, not, reverse, position};
+ghost use Rattle.std.specs.Prelude.{◌≡◌, None, ◌==◌, ◌+◌, ◌<◌, ◌≤◌, IfOk, IfSome, length, take, drop, not, reverse, position};
 ghost use Rattle.jats_chars.specs.Classes.{is_space as white};
+ghost use Rattle.tagset_tool.specs.Plain as plain;
 ghost use Rattle.tagset_tool.specs.Reading as spec;
 
-use content_models::{Content, ContentFault, parse_content, spaces, trimmed};
+use crate::space::{spaces, trimmed};
+use content_models::{Content, ContentFault, parse_content};
 use jats_chars::{Name, NoMemory, Text, is_space};
 use std::alloc::Global;
 
@@ -29,6 +31,40 @@ fn word_len(text: &[char]) -> usize
     first_space(text).unwrap_or(text.len())
 }
 
+fn if_plain(content: Content) -> Option<Content>
+    ensures { result ≡ plain.if_plain content }
+{
+    match content {
+        Content::Empty => Some(Content::Empty),
+        Content::Any => None,
+        Content::Mixed(names) => Some(Content::Mixed(names)),
+        Content::Children(_) => None,
+    }
+}
+
+/// No content, unless memory ran out.
+fn refused(fault: &ContentFault) -> Result<Option<Content>, NoMemory>
+    ensures { IfOk result (λ o. (o ≡ None) × (fault.now ≡ ContentFault.NoMemory → ⊥)) }
+{
+    match fault {
+        ContentFault::GroupTooDeep => Ok(None),
+        ContentFault::Malformed => Ok(None),
+        ContentFault::PositionsOver => Ok(None),
+        ContentFault::DuplicateMixedName(_) => Ok(None),
+        ContentFault::NoMemory => Err(NoMemory),
+    }
+}
+
+/// The proper and plain content that a text spells.
+fn plain_content(alloc: Global, text: &Text) -> Result<Option<Content>, NoMemory>
+    ensures { IfOk result (λ o. o ≡ plain.plain_content text.now) }
+{
+    match parse_content(alloc, text) {
+        Ok(content) => Ok(if_plain(content)),
+        Err(fault) => refused(&fault),
+    }
+}
+
 fn content_after(alloc: Global, rest: &[char]) -> Result<Option<Content>, NoMemory>
     ensures { IfOk result (λ o. o ≡ spec.content_after rest.now) }
 {
@@ -36,11 +72,7 @@ fn content_after(alloc: Global, rest: &[char]) -> Result<Option<Content>, NoMemo
         return Ok(None);
     }
     let text = Text::from_slice(alloc, trimmed(rest))?;
-    match parse_content(alloc, &text) {
-        Ok(content) => Ok(Some(content)),
-        Err(ContentFault::Malformed) => Ok(None),
-        Err(ContentFault::NoMemory) => Err(NoMemory),
-    }
+    plain_content(alloc, &text)
 }
 
 fn named(alloc: Global, text: &[char]) -> Result<Option<Element>, NoMemory>

@@ -5,6 +5,7 @@ ghost use Rattle.jats_io.specs.Causes.{HasCause, Rose};
 ghost use Rattle.tagset_tool.specs.Output as spec;
 ghost use Rattle.tagset_tool.specs.Reading.{set_of};
 ghost use Rattle.decl_set.specs.Declarations.{content_in};
+ghost use Rattle.tagset_tool.specs.Plain.{IsPlain};
 ghost use Rattle.tagset_tool.specs.Runs.{IsAnswered, IsLoadFailed, AnswersAbsence, WritesAbsence, StopsAs, Runs};
 
 use crate::comparison::{BrokenDecl, Cause, Verdict, compare};
@@ -106,6 +107,8 @@ fn answer_over(
     second: &DeclSet,
     root: &Text,
 ) -> Result<Answer, NoMemory>
+    requires first { IsPlain first.now }
+    requires second { IsPlain second.now }
     ensures { IfOk result (λ a. spec.OverRoot first.now second.now root.now (spec.root_in first.now root.now) a.status a.bytes.items) }
 {
     match declared_root(alloc, first, root)? {

@@ -1,6 +1,6 @@
 use Rattle.std.proofs.Common.{◌≡◌, ◌∙◌, ℕ, List, sym, subst, inl, inr, Some, None, IsSome}
 use Rattle.std.specs.Prelude.{Option, Result}
-use Rattle.content_models.specs.declared.Content.{Content}
+use Rattle.content_models.specs.declared.content.Content.{Content}
 use Rattle.decl_set.specs.Declarations.{Declarations}
 use Rattle.tagset_tool.specs.Verdicts.{IsVerdict}
 use Rattle.tagset_tool.specs.Output.{Asked, OverRoot, OverSecond, OverFirst, OverAsked, root_in, verdict_status}

@@ -1,0 +1,5 @@
+pub mod Items
+pub mod Scanning
+pub mod Parts
+pub mod ItemLists
+pub mod Walk
