@@ -39,7 +39,6 @@ pub enum DeclFault {
 impl Model for DeclSet {
     ghost use Rattle.std.specs.Prelude.{◌≤◌, length};
     ghost use Rattle.decl_set.specs.Declarations.{Declarations};
-
     ghost use Rattle.std.specs.Coded.{codes};
     ghost use Rattle.content_models.specs.contracts.content.Particle as particle;
 

@@ -1,5 +1,5 @@
 -- Documents as trees (XML 1.0, 2.1 and 3), apart from any set of declarations.
-use Rattle.std.specs.Prelude.{◌≡◌, ℕ, ◌+◌, Bool, true, false, ◌||◌, ◌&&◌, not, List, [], ◌∷◌, IsTrue, bytes_eq}
+use Rattle.std.specs.Prelude.{ℕ, ◌+◌, Bool, true, false, ◌||◌, ◌&&◌, not, List, [], ◌∷◌, IsTrue, bytes_eq}
 use Rattle.std.specs.List.{list_all, list_any}
 use Rattle.jats_chars.specs.Classes.{is_char, is_space}
 use Rattle.jats_chars.specs.Names.{is_name}

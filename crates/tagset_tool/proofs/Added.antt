@@ -1,5 +1,5 @@
 -- Names that are added while the useful elements are gathered.
-use Rattle.std.proofs.Common.{◌≡◌, ◌∙◌, ℕ, zero, suc, ◌+◌, ◌<◌, ◌≤◌, Bool, true, false, ◌||◌, ◌&&◌, not, List, [], ◌∷◌, ◌++◌, get_or, length, take, Some, None, refl, sym, ap, subst, IsTrue, is_some, slice_get, arith, append_assoc, length-append}
+use Rattle.std.proofs.Common.{◌≡◌, ℕ, zero, suc, ◌<◌, ◌≤◌, Bool, true, false, ◌||◌, ◌&&◌, not, List, [], ◌∷◌, ◌++◌, get_or, length, take, Some, None, refl, sym, ap, subst, IsTrue, slice_get, arith, append_assoc, length-append}
 use Rattle.std.specs.Prelude.{Option}
 use Rattle.std.specs.List.{AllByRecursion, list_all}
 use Rattle.std.proofs.lemmas.Grind.{common_steps}
@@ -8,9 +8,9 @@ use Rattle.content_models.specs.declared.content.Content.TheVariants.{Mixed}
 use Rattle.content_models.specs.Model.{among}
 use Rattle.decl_set.specs.Declarations.{Declarations, content_in}
 use Rattle.tagset_tool.specs.Reached.{IsReached}
-use Rattle.tagset_tool.specs.Checks.{declared, led, closes, listed_in, Listed, IsListed, AddsListed, AddsChildren, content_at, unmarked}
+use Rattle.tagset_tool.specs.Checks.{declared, led, closes, listed_in, Listed, IsListed, AddsListed, AddsChildren, content_at}
 use Rattle.tagset_tool.proofs.Documents.{child_reached}
-use Rattle.tagset_tool.proofs.Names.{all_push, all_join, among_more, among_kept, among_new, fewer, reached_of}
+use Rattle.tagset_tool.proofs.Names.{all_push, all_join, among_more, among_new, fewer}
 
 led_more : (d a b : Bool) → (IsTrue a → IsTrue b) → IsTrue (not d || a) → IsTrue (not d || b)
 led_more true a b f t = f t

@@ -1,11 +1,13 @@
 pub mod Added
 pub mod Asked
+pub mod Causes
 pub mod Absences
 pub mod Steps
 pub mod Found
 pub mod Documents
 pub mod Names
 pub mod Breaks
+pub mod Numbers
 pub mod OneOutput
 pub mod Places
 pub mod PlainContents

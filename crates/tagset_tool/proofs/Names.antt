@@ -1,5 +1,5 @@
 -- Names in lists, and the names that a comparison marks.
-use Rattle.std.proofs.Common.{◌≡◌, ℕ, zero, suc, ◌+◌, ◌<◌, ◌≤◌, Bool, true, false, cond, ◌||◌, ◌&&◌, not, List, [], ◌∷◌, ◌++◌, get_or, length, Some, refl, sym, subst, IsTrue, is_some, bytes_eq, arith}
+use Rattle.std.proofs.Common.{◌≡◌, ℕ, zero, suc, ◌<◌, ◌≤◌, Bool, true, false, cond, ◌||◌, ◌&&◌, not, List, [], ◌∷◌, ◌++◌, get_or, length, Some, refl, sym, subst, IsTrue, is_some, bytes_eq, arith}
 use Rattle.std.specs.Prelude.{Option}
 use Rattle.std.specs.List.{AllByRecursion, list_all}
 use Rattle.std.specs.Cmp.Lexicographic.{nat_list_eq_equiv}
@@ -10,7 +10,7 @@ use Rattle.content_models.specs.Model.{among}
 use Rattle.decl_set.specs.Declarations.{Declarations, Element, content_in}
 use Rattle.tagset_tool.specs.Checks.{declared, led, closes, is_closed, unmarked}
 use Rattle.tagset_tool.specs.Reached.{IsReached}
-use Rattle.tagset_tool.proofs.Documents.{IsClosed, child_reached}
+use Rattle.tagset_tool.proofs.Documents.{IsClosed}
 
 pub bytes_same : (x y : List ℕ) → IsTrue (bytes_eq x y) → x ≡ y
 bytes_same x y t = (bytes_eq-Decides x y).0 t

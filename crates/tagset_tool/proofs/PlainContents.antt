@@ -1,13 +1,11 @@
 -- Plain contents that texts spell, and sets of them.
-use Rattle.std.proofs.Common.{◌≡◌, ◌∙◌, ℕ, zero, suc, ◌+◌, Bool, true, false, List, [], ◌∷◌, ◌++◌, Some, None, Ok, Err, refl, sym, ap, subst, IsTrue, inl, inr, ◌⊎◌, drop, take, length, nat_lt, nat_eq, position, not, ◌==◌, codes, IfOk}
+use Rattle.std.proofs.Common.{◌≡◌, ◌∙◌, ℕ, zero, suc, ◌+◌, Bool, true, false, List, [], ◌∷◌, ◌++◌, Some, None, Ok, Err, refl, sym, subst, IsTrue, inl, inr, ◌⊎◌, drop, take, length, nat_lt, nat_eq, position, not, ◌==◌, codes, IfOk}
 use Rattle.std.specs.Prelude.{Option, Result, if◌then◌else◌}
 use Rattle.std.specs.Option.{option_map_or}
 use Rattle.std.specs.List.{AllByRecursion, starts_with}
 use Rattle.content_models.specs.declared.content.Content.{Content}
-use Rattle.content_models.specs.declared.content.Content.TheVariants.{Empty, Any, Mixed, Children}
 use Rattle.content_models.specs.declared.parsing.ContentFault.{ContentFault}
 use Rattle.content_models.specs.declared.parsing.ContentFault.TheVariants as fault
-use Rattle.content_models.specs.Grammar.{Spells}
 use Rattle.content_models.specs.Parses.{Parses}
 use Rattle.content_models.specs.Proper.{is_proper}
 use Rattle.content_models.specs.Reading.{content_of}
@@ -119,8 +117,8 @@ reads_plain zero at set (c ∷ text) s all e = cc
 reads_plain (suc most) at set (c ∷ text) s all e = next_plain most at set (c ∷ text) s (first_item set (c ∷ text)) refl all (λ set' at' text' all'. reads_plain most at' set' text' s all') e
   where
     next_plain : (most at : ℕ) (set : Declarations) (text : List ℕ) (s : Declarations) (o : Option (Declarations × ℕ)) → first_item set text ≡ o → IsPlain set
-      → ((set' : Declarations) (at' : ℕ) (text' : List ℕ) → IsPlain set' → reads most at' set' text' ≡ Ok s → IsPlain s)
-      → option_map_or (λ (x : Declarations × ℕ). reads most (at + x.1) x.0 (drop x.1 text)) o (Err at) ≡ Ok s → IsPlain s
+        → ((set' : Declarations) (at' : ℕ) (text' : List ℕ) → IsPlain set' → reads most at' set' text' ≡ Ok s → IsPlain s)
+        → option_map_or (λ (x : Declarations × ℕ). reads most (at + x.1) x.0 (drop x.1 text)) o (Err at) ≡ Ok s → IsPlain s
     next_plain most at set text s None item all later e = cc
     next_plain most at set text s (Some x) item all later e = later x.0 (at + x.1) (drop x.1 text) (item_plain set text x all item) e
 
@@ -132,6 +130,7 @@ parsed_set_plain bytes s e = long (nat_lt 4194304 (length bytes)) e
     checked_plain : (o : Option ℕ) → checked bytes o ≡ Ok s → IsPlain s
     checked_plain None e = reads_plain (length bytes) 0 none_declared bytes s tt e
     checked_plain (Some k) e = cc
+
     long : (b : Bool) → (if b then Err 0 else checked bytes (position (λ b. not (is_plain_byte b)) bytes)) ≡ Ok s → IsPlain s
     long true e = cc
     long false e = checked_plain (position (λ b. not (is_plain_byte b)) bytes) e

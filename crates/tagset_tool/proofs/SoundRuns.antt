@@ -5,7 +5,7 @@ use Rattle.jats_io.specs.Causes.{HasCause}
 use Rattle.jats_io.specs.Written.{SoundBytes}
 use Rattle.tagset_tool.specs.Output.{Files, IsOutput}
 use Rattle.tagset_tool.specs.Runs.{Runs}
-use Rattle.tagset_tool.specs.Sound.{IsDone, RunsSound}
+use Rattle.tagset_tool.specs.Sound.{IsDone}
 use Rattle.tagset_tool.proofs.OneOutput.{one_output}
 
 data Status (n : ℕ) : Type 0 where

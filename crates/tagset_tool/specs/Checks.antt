@@ -1,5 +1,5 @@
 -- Tests of names that the comparison makes.
-use Rattle.std.specs.Prelude.{◌≡◌, ℕ, ◌+◌, ◌≤◌, length, if◌then◌else◌, Bool, true, false, not, ◌||◌, List, ◌∷◌, ◌++◌, Option, Some, None, is_some, IsTrue, slice_get, []}
+use Rattle.std.specs.Prelude.{◌≡◌, ℕ, ◌+◌, ◌≤◌, length, if◌then◌else◌, Bool, true, not, ◌||◌, List, ◌∷◌, ◌++◌, Option, Some, None, is_some, IsTrue, slice_get, []}
 use Rattle.std.specs.List.{list_all, AllByRecursion}
 use Rattle.jats_chars.specs.Names.{is_name}
 use Rattle.content_models.specs.declared.content.Content.{Content}

@@ -1,18 +1,20 @@
 -- The lines of refusals.
-use Rattle.std.specs.Prelude.{ℕ, List, [], ◌∷◌, ◌++◌, codes, decimal, encode_utf8_all}
+use Rattle.std.specs.Prelude.{ℕ, List, [], ◌∷◌, codes}
+use Rattle.jats_fault.specs.Lines.{line_of}
+use Rattle.jats_fault.specs.declared.fault.Fault.{Fault}
 use Rattle.tagset_tool.specs.declared.lines.Refusal.{Refusal}
 use Rattle.tagset_tool.specs.declared.lines.Refusal.TheVariants.{ModuleAbsent, FormUnbuilt, RootUndeclared}
 
-abbrev pub absent_line : List ℕ → List ℕ
-absent_line file = codes "refused E10 ModuleAbsent " ++ encode_utf8_all file ++ (codes " 0" ++ 10 ∷ [])
+-- a refusal as the table knows it
+abbrev pub fault : ℕ → List ℕ → ℕ → List (List ℕ) → Fault
+fault number place offset details = record { number = number; place = record { «module» = place; offset = offset }; details = details }
 
-abbrev pub unbuilt_line : List ℕ → ℕ → List ℕ
-unbuilt_line file offset = codes "refused E19 FormUnbuilt " ++ encode_utf8_all file ++ (codes " " ++ (decimal offset ++ 10 ∷ []))
+-- the fault that is meant
+abbrev pub fault_of : Refusal → Fault
+fault_of (ModuleAbsent file) = fault 10 file 0 []
+fault_of (FormUnbuilt file offset) = fault 19 file offset []
+fault_of (RootUndeclared root) = fault 40 (codes "-") 0 (root ∷ [])
 
-abbrev pub root_line : List ℕ → List ℕ
-root_line root = codes "refused E40 RootUndeclared - 0 " ++ encode_utf8_all root ++ 10 ∷ []
-
+-- the refusal's one line
 abbrev pub refusal_line : Refusal → List ℕ
-refusal_line (ModuleAbsent file) = absent_line file
-refusal_line (FormUnbuilt file offset) = unbuilt_line file offset
-refusal_line (RootUndeclared root) = root_line root
+refusal_line refusal = line_of (fault_of refusal)

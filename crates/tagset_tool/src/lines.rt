@@ -1,9 +1,10 @@
 //! Refusals as lines.
 
-ghost use Rattle.std.specs.Prelude.{◌≡◌, IfOk, string_bytes, encode_utf8_all};
+ghost use Rattle.std.specs.Prelude.{◌≡◌, [], ◌∷◌, IfOk, string_bytes, encode_utf8_all, codes};
 ghost use Rattle.tagset_tool.specs.Lines as spec;
 
 use jats_chars::{NoMemory, Text};
+use jats_fault::{Details, Fault, Place, line};
 use std::alloc::Global;
 
 /// Why the input is refused.
@@ -22,37 +23,54 @@ pub fn shown(alloc: Global, text: &Text) -> Result<String, NoMemory>
     Ok(s)
 }
 
-fn absent_line(alloc: Global, file: &Text) -> Result<Vec<u8>, NoMemory>
-    ensures { IfOk result (λ v. v.items ≡ spec.absent_line file.now) }
+fn fault(alloc: Global, number: u16, file: Text, offset: u64) -> Fault
+    ensures { result ≡ spec.fault number file offset [] }
 {
-    let file = shown(alloc, file)?;
-    let line = format!(in alloc; "refused E10 ModuleAbsent {file} 0\n")?;
-    Ok(line.into_bytes())
+    Fault {
+        number,
+        place: Place {
+            module: file,
+            offset,
+        },
+        details: Details::new(alloc),
+    }
 }
 
-fn unbuilt_line(alloc: Global, file: &Text, offset: u64) -> Result<Vec<u8>, NoMemory>
-    ensures { IfOk result (λ v. v.items ≡ spec.unbuilt_line file.now offset) }
+fn no_module(alloc: Global) -> Result<Text, NoMemory>
+    ensures { IfOk result (λ t. t ≡ codes "-") }
 {
-    let file = shown(alloc, file)?;
-    let line = format!(in alloc; "refused E19 FormUnbuilt {file} {offset}\n")?;
-    Ok(line.into_bytes())
+    Text::from_slice(alloc, &['-'])
 }
 
-fn root_line(alloc: Global, root: &Text) -> Result<Vec<u8>, NoMemory>
-    ensures { IfOk result (λ v. v.items ≡ spec.root_line root.now) }
+fn undeclared(alloc: Global, root: &Text) -> Result<Fault, NoMemory>
+    ensures { IfOk result (λ f. f ≡ spec.fault 40 (codes "-") 0 (root.now ∷ [])) }
 {
-    let root = shown(alloc, root)?;
-    let line = format!(in alloc; "refused E40 RootUndeclared - 0 {root}\n")?;
-    Ok(line.into_bytes())
+    let module = no_module(alloc)?;
+    let root = root.copy(alloc)?;
+    let mut details = Details::new(alloc);
+    details.add(root);
+    Ok(Fault {
+        number: 40,
+        place: Place { module, offset: 0 },
+        details,
+    })
+}
+
+/// The fault that is meant.
+fn fault_of(alloc: Global, refusal: &Refusal) -> Result<Fault, NoMemory>
+    ensures { IfOk result (λ f. f ≡ spec.fault_of refusal.now) }
+{
+    match refusal {
+        Refusal::ModuleAbsent(file) => Ok(fault(alloc, 10, file.copy(alloc)?, 0)),
+        Refusal::FormUnbuilt(file, offset) => Ok(fault(alloc, 19, file.copy(alloc)?, *offset)),
+        Refusal::RootUndeclared(root) => undeclared(alloc, root),
+    }
 }
 
 /// The refusal's one line.
 pub fn refusal_line(alloc: Global, refusal: &Refusal) -> Result<Vec<u8>, NoMemory>
     ensures { IfOk result (λ v. v.items ≡ spec.refusal_line refusal.now) }
 {
-    match refusal {
-        Refusal::ModuleAbsent(file) => absent_line(alloc, file),
-        Refusal::FormUnbuilt(file, offset) => unbuilt_line(alloc, file, *offset),
-        Refusal::RootUndeclared(root) => root_line(alloc, root),
-    }
+    let fault = fault_of(alloc, refusal)?;
+    line(alloc, &fault)
 }

@@ -1,4 +1,4 @@
-use Rattle.std.proofs.Common.{rules, arith, refl, ◌≡◌, ◌∙◌, ap, None, bytes_eq, List, ◌++◌, ◌∷◌, []}
+use Rattle.std.proofs.Common.{rules, arith, ◌≡◌, ◌∙◌, ap, None, bytes_eq, List}
 use Rattle.std.specs.Map.{lookup}
 use Rattle.indexmap.proofs.CallerLemmas.{insert_entry-new}
 use Rattle.decl_set.specs.Declarations.{Declarations, Element}

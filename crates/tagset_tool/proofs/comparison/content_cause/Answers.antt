@@ -1,4 +1,3 @@
-use Rattle.std.proofs.Common.{◌≡◌, rules, sym}
 use Rattle.tagset_tool.proofs.Breaks.{empty_fine, listed_breaks, text_decides, plain_in}
 use Rattle.tagset_tool.proofs.comparison.content_cause.Goals as goal
 
@@ -8,8 +7,8 @@ returns-in-Empty c = rw c.in-Empty.is (empty_fine c.args.first.now c.args.other.
 pub returns-in-Some : goal.returns-in-Some
 returns-in-Some c =
     rw c.in-Mixed.is (
-      listed_breaks c.args.first.now c.in-Mixed.listed c.args.other.now c.in-Some.field-0.now c.requires.other (plain_in c.args.first.now c.requires.first c.in-Some.field-0.now)
-      (rw c.as_slice.ensures at c.in-Some.ensures.0) c.in-Some.ensures.1
+    listed_breaks c.args.first.now c.in-Mixed.listed c.args.other.now c.in-Some.field-0.now c.requires.other (plain_in c.args.first.now c.requires.first c.in-Some.field-0.now)
+    (rw c.as_slice.ensures at c.in-Some.ensures.0) c.in-Some.ensures.1
     )
 
 pub returns-in-None : goal.returns-in-None

@@ -6,6 +6,6 @@ pub loop-at-preserved : goal.loop-at-preserved
 loop-at-preserved c =
     let lt : c.loop-at.at < length c.loop-at.names = omega arith in
     rw add-one (
-      gathers_next c.args.first.now c.args.root.now c.loop-at.names c.add_children.new.names c.loop-at.at c.loop-at.invariant lt
-      (rw c.content_at-content.ensures at c.in_ok-add_children.ensures)
+    gathers_next c.args.first.now c.args.root.now c.loop-at.names c.add_children.new.names c.loop-at.at c.loop-at.invariant lt
+    (rw c.content_at-content.ensures at c.in_ok-add_children.ensures)
     )
