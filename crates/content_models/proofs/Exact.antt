@@ -1,8 +1,8 @@
 -- The answers of parsing are exact.
-use Rattle.std.proofs.Common.{◌≡◌, List, ◌∷◌, ◌++◌, ◌≤◌, length, refl, sym, ap, ◌∙◌, subst, arith, true, false, true≢false, Option, Some, None, ◌⊎◌, inl, inr}
-use Rattle.std.specs.Prelude.{codes, nat_le, nat_lt, Result, Ok, Err, is_none}
+use Rattle.std.proofs.Common.{◌≡◌, List, ◌∷◌, ◌++◌, ◌≤◌, length, refl, sym, ap, ◌∙◌, subst, arith, true, false, true≢false, Option, Some, None, ◌⊎◌, inl, inr, ◌<◌}
+use Rattle.std.specs.Prelude.{codes, nat_le, nat_lt, Result, Ok, Err, is_none, if◌then◌else◌}
 use Rattle.std.specs.List.{list_all}
-use Rattle.std.proofs.lemmas.Bool.{leb-true, le-leb, ltb-false}
+use Rattle.std.proofs.lemmas.Bool.{leb-true, le-leb, ltb-false, lt-ltb, le-ltb}
 use Rattle.jats_chars.specs.Names.{is_name}
 use Rattle.content_models.specs.declared.content.Content.{Content}
 use Rattle.content_models.specs.declared.content.Content.TheVariants.{Empty, Any, Mixed, Children}
@@ -16,7 +16,7 @@ use Rattle.content_models.specs.Reading.{content_of}
 use Rattle.content_models.specs.Spelling.{flat}
 use Rattle.content_models.proofs.Letters.{and-left, and-right}
 use Rattle.content_models.proofs.Peaks.{opens, spaces, other, names}
-use Rattle.content_models.proofs.Contents.{depth_of, content_complete}
+use Rattle.content_models.proofs.Contents.{depth_of, content_sound, content_complete}
 use Rattle.content_models.proofs.Shapes.{and-both, part_shape, names_names, flat_spells}
 
 -- what is spelled within the limits is proper
@@ -92,12 +92,6 @@ not_deep t (Children q) s p d =
     let l : depth q ≤ 64 = leb-true (depth q) 64 (and-left (nat_le (depth q) 64) _ k) in
     omega (arith, depth_of t q s.1)
 
--- a text that spells a proper content spells no other
-pub one_content : (t : Chars) (c e : Content) → IsProper c → Spells t c → Spells t e → c ≡ e
-one_content t c e p s r =
-    let d = not_deep t c s p in
-    let f : Some c ≡ Some e = sym (content_complete t c s d) ∙ content_complete t e r d in cc
-
 few : (c : Content) → IsProper c → (occurrences c ≤ 1024) × (repeated_in c ≡ None)
 unfolding is_proper
 few Empty p = (omega arith, refl)
@@ -113,21 +107,74 @@ few (Children q) p =
     let k = and-right (has_shape q) _ (and-right (is_group q) _ p) in
     (leb-true (names_in q) 1024 (and-right (nat_le (depth q) 64) _ k), refl)
 
+-- ---- one answer for a text, computed
+named_fault : Content → Option Chars → Result Content ContentFault
+named_fault c None = Ok c
+named_fault c (Some name) = Err (fault.DuplicateMixedName name)
+
+judged : Content → Result Content ContentFault
+judged c = if nat_lt 1024 (occurrences c) then Err fault.PositionsOver else named_fault c (repeated_in c)
+
+answered : Option Content → Result Content ContentFault
+answered None = Err fault.Malformed
+answered (Some c) = judged c
+
+answer_of : Chars → Result Content ContentFault
+answer_of t = if nat_lt 64 (most_open 0 t) then Err fault.GroupTooDeep else answered (content_of t)
+
+flat_answer : (t : Chars) → (IsTooDeep t → ⊥) → (o : Option Content) → content_of t ≡ o → answer_of t ≡ answered o
+unfolding answer_of
+flat_answer t d o e =
+    let l : most_open 0 t ≤ 64 = omega (arith, d) in
+    ap (λ b. if b then Err fault.GroupTooDeep else answered (content_of t)) (le-ltb 64 (most_open 0 t) l) ∙ ap answered e
+
+deep_answer : (t : Chars) → IsTooDeep t → answer_of t ≡ Err fault.GroupTooDeep
+unfolding answer_of
+deep_answer t d = ap (λ b. if b then Err fault.GroupTooDeep else answered (content_of t)) (lt-ltb 64 (most_open 0 t) d)
+
+over_judged : (c : Content) → 1024 < occurrences c → judged c ≡ Err fault.PositionsOver
+unfolding judged
+over_judged c l = ap (λ b. if b then Err fault.PositionsOver else named_fault c (repeated_in c)) (lt-ltb 1024 (occurrences c) l)
+
+few_judged : (c : Content) (o : Option Chars) → occurrences c ≤ 1024 → repeated_in c ≡ o → judged c ≡ named_fault c o
+unfolding judged
+few_judged c o l e =
+    ap (λ b. if b then Err fault.PositionsOver else named_fault c (repeated_in c)) (le-ltb 1024 (occurrences c) l) ∙ ap (named_fault c) e
+
+nothing_read : (t : Chars) → ((c : Content) → Spells t c → ⊥) → (o : Option Content) → content_of t ≡ o → o ≡ None
+nothing_read t none None e = refl
+nothing_read t none (Some c) e = absurd (none c (content_sound t c e))
+
+parses_answer : (t : Chars) (r : Result Content ContentFault) → Parses t r → (r ≡ answer_of t) ⊎ (r ≡ Err fault.NoMemory)
+unfolding answered named_fault
+parses_answer t (Ok c) a =
+    let f = few c a.2 in
+    inl (sym (flat_answer t a.0 (Some c) (content_complete t c a.1 a.0) ∙ few_judged c None f.0 f.1))
+parses_answer t (Err fault.GroupTooDeep) a = inl (sym (deep_answer t a))
+parses_answer t (Err fault.Malformed) a =
+    inl (sym (flat_answer t a.0 None (nothing_read t a.1 (content_of t) refl)))
+parses_answer t (Err fault.PositionsOver) a =
+    inl (sym (flat_answer t a.0 (Some a.1) (content_complete t a.1 a.2 a.0) ∙ over_judged a.1 a.3))
+parses_answer t (Err (fault.DuplicateMixedName name)) a =
+    inl (sym (flat_answer t a.0 (Some (Mixed a.1)) (content_complete t (Mixed a.1) a.2 a.0) ∙ few_judged (Mixed a.1) (Some name) a.3 a.4))
+parses_answer t (Err fault.NoMemory) a = inr refl
+
+pub same_answer : (t : Chars) (r s : Result Content ContentFault) → Parses t r → Parses t s → (r ≡ s) ⊎ ((r ≡ Err fault.NoMemory) ⊎ (s ≡ Err fault.NoMemory))
+same_answer t r s a b = elim (parses_answer t r a) [
+      inl e ↦ elim (parses_answer t s b) [ inl f ↦ inl (e ∙ sym f) | inr f ↦ inr (inr f) ]
+    | inr e ↦ inr (inl e) ]
+
+-- a text without too many open parentheses spells one content at most
+pub one_content : (t : Chars) (c e : Content) → (IsTooDeep t → ⊥) → Spells t c → Spells t e → c ≡ e
+one_content t c e d s r = (let f : Some c ≡ Some e = sym (content_complete t c s d) ∙ content_complete t e r d in cc)
+
 -- where a proper content is spelled it is the answer, if memory is enough
 pub parses_spelled : (t : Chars) (c : Content) (r : Result Content ContentFault) → IsProper c → Spells t c → Parses t r → (r ≡ Ok c) ⊎ (r ≡ Err fault.NoMemory)
-parses_spelled t c (Ok e) p s a = inl (ap Ok (sym (one_content t c e p s a.1)))
-parses_spelled t c (Err fault.GroupTooDeep) p s a = absurd (not_deep t c s p a)
-parses_spelled t c (Err fault.Malformed) p s a = absurd (a.1 c s)
-parses_spelled t c (Err fault.PositionsOver) p s a =
-    let e : c ≡ a.1 = one_content t c a.1 p s a.2 in
-    let l = (few c p).0 in
-    let m : occurrences c ≡ occurrences a.1 = ap occurrences e in
-    absurd (omega (arith, l, m, a.3))
-parses_spelled t c (Err (fault.DuplicateMixedName name)) p s a =
-    let e : c ≡ Mixed a.1 = one_content t c (Mixed a.1) p s a.2 in
-    let f : None ≡ Some name = sym (few c p).1 ∙ ap repeated_in e ∙ a.4 in
-    (let z : ⊥ = cc in absurd z)
-parses_spelled t c (Err fault.NoMemory) p s a = inr refl
+parses_spelled t c r p s a =
+    elim (same_answer t r (Ok c) a (not_deep t c s p, s, p)) [
+      inl e ↦ inl e
+    | inr (inl e) ↦ inr e
+    | inr (inr e) ↦ (let z : ⊥ = (let f : Ok c ≡ Err fault.NoMemory = e in cc) in absurd z) ]
 
 pub parses_flat : (c : Content) (r : Result Content ContentFault) → IsProper c → Parses (flat c) r → (r ≡ Ok c) ⊎ (r ≡ Err fault.NoMemory)
 parses_flat c r p a = parses_spelled (flat c) c r p (flat_spells c p) a

@@ -5,7 +5,7 @@ use Rattle.content_models.specs.declared.parsing.ContentFault.{ContentFault}
 use Rattle.content_models.specs.declared.parsing.ContentFault.TheVariants as fault
 use Rattle.content_models.specs.Model.{Chars}
 use Rattle.content_models.specs.Proper.{IsProper}
-use Rattle.content_models.specs.Parses.{Parses}
+use Rattle.content_models.specs.Parses.{Parses, IsTooDeep}
 use Rattle.content_models.specs.Grammar.{Spells}
 use Rattle.content_models.specs.Spelling.{flat}
 
@@ -13,9 +13,15 @@ use Rattle.content_models.specs.Spelling.{flat}
 abbrev pub IsAnswer : Result Content ContentFault → Content → Type 0
 IsAnswer answer content = (answer ≡ Ok content) ⊎ (answer ≡ Err fault.NoMemory)
 
--- a text that spells a proper content spells no other content
+-- a text spells one content at most, where no more than 64 parentheses are open
 abbrev pub OneContent : Type 0
-OneContent = (text : Chars) (content other : Content) → IsProper content → Spells text content → Spells text other → content ≡ other
+OneContent = (text : Chars) (content other : Content) → (¬ IsTooDeep text) → Spells text content → Spells text other → content ≡ other
+
+-- a text has one answer, but for want of memory
+abbrev pub OneAnswer : Type 0
+OneAnswer =
+    (text : Chars) (answer other : Result Content ContentFault) → Parses text answer → Parses text other
+    → (answer ≡ other) ⊎ ((answer ≡ Err fault.NoMemory) ⊎ (other ≡ Err fault.NoMemory))
 
 -- where a text spells a proper content, that content is the answer
 abbrev pub ParsesSpelled : Type 0

@@ -1,0 +1,11 @@
+pub mod Catalogs
+pub mod Collapse
+pub mod Identifiers
+pub mod Join
+pub mod Lines
+pub mod Named
+pub mod NamedBy
+pub mod Outcomes
+pub mod Resolution
+pub mod Said
+pub mod Spelling
