@@ -161,8 +161,9 @@ parses_answer t (Err fault.NoMemory) a = inr refl
 
 pub same_answer : (t : Chars) (r s : Result Content ContentFault) → Parses t r → Parses t s → (r ≡ s) ⊎ ((r ≡ Err fault.NoMemory) ⊎ (s ≡ Err fault.NoMemory))
 same_answer t r s a b = elim (parses_answer t r a) [
-      inl e ↦ elim (parses_answer t s b) [ inl f ↦ inl (e ∙ sym f) | inr f ↦ inr (inr f) ]
-    | inr e ↦ inr (inl e) ]
+  | inl e ↦ elim (parses_answer t s b) [ inl f ↦ inl (e ∙ sym f) | inr f ↦ inr (inr f) ]
+  | inr e ↦ inr (inl e)
+]
 
 -- a text without too many open parentheses spells one content at most
 pub one_content : (t : Chars) (c e : Content) → (IsTooDeep t → ⊥) → Spells t c → Spells t e → c ≡ e
@@ -172,9 +173,10 @@ one_content t c e d s r = (let f : Some c ≡ Some e = sym (content_complete t c
 pub parses_spelled : (t : Chars) (c : Content) (r : Result Content ContentFault) → IsProper c → Spells t c → Parses t r → (r ≡ Ok c) ⊎ (r ≡ Err fault.NoMemory)
 parses_spelled t c r p s a =
     elim (same_answer t r (Ok c) a (not_deep t c s p, s, p)) [
-      inl e ↦ inl e
-    | inr (inl e) ↦ inr e
-    | inr (inr e) ↦ (let z : ⊥ = (let f : Ok c ≡ Err fault.NoMemory = e in cc) in absurd z) ]
+      | inl e ↦ inl e
+      | inr (inl e) ↦ inr e
+      | inr (inr e) ↦ (let z : ⊥ = (let f : Ok c ≡ Err fault.NoMemory = e in cc) in absurd z)
+    ]
 
 pub parses_flat : (c : Content) (r : Result Content ContentFault) → IsProper c → Parses (flat c) r → (r ≡ Ok c) ⊎ (r ≡ Err fault.NoMemory)
 parses_flat c r p a = parses_spelled (flat c) c r p (flat_spells c p) a

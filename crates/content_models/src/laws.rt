@@ -18,8 +18,7 @@ pub fn parse_law()
     ensures content { OneContent }
     ensures answer { OneAnswer }
     ensures spelled { ParsesSpelled }
-{
-}
+{}
 
 /// What `print_content` gives for a proper content spells that content, and `parse_content` gives it back, unless
 /// memory ran out.

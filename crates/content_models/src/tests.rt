@@ -29,7 +29,8 @@ fn gives(alloc: Global, text: &str, answer: &str) -> Result<bool, NoMemory> {
 
 #[test]
 fn forms(rt: HostRuntime) -> Result<(), Fail> {
-    let table = "EMPTY=EMPTY;ANY=ANY;(a)=(a);((a))=((a));(a|b)=(a|b);(a,a)=(a,a);(a,b?,(c|d)*)+=(a,b?,(c|d)*)+;\
+    let table =
+        "EMPTY=EMPTY;ANY=ANY;(a)=(a);((a))=((a));(a|b)=(a|b);(a,a)=(a,a);(a,b?,(c|d)*)+=(a,b?,(c|d)*)+;\
         ( a\t,\n(b|c )? ,\r d* )+=(a,(b|c)?,d*)+;(#PCDATA)=(#PCDATA);( #PCDATA )=(#PCDATA);(#PCDATA)*=(#PCDATA);\
         (#PCDATA|a)*=(#PCDATA|a)*;( #PCDATA | a\n|\tb )*=(#PCDATA|a|b)*;(#PCDATA|a|b|a)*=DuplicateMixedName a;\
         (#PCDATA|a|b|c|c|a)*=DuplicateMixedName c";
@@ -42,7 +43,8 @@ fn forms(rt: HostRuntime) -> Result<(), Fail> {
 
 #[test]
 fn no_forms(rt: HostRuntime) -> Result<(), Fail> {
-    let table = ";EMPTY ; ANY;empty; (a);(a) ;a;a?;();( );(a,);(,a);(a|);(a b);(a,b|c);(a|b,c);(a ?);(a) *;((a) ?,b);(a)??;\
+    let table =
+        ";EMPTY ; ANY;empty; (a);(a) ;a;a?;();( );(a,);(,a);(a|);(a b);(a,b|c);(a|b,c);(a ?);(a) *;((a) ?,b);(a)??;\
         (a?*);(a));((a);(a;(a)b;(1);(a,#PCDATA);(#PCDATA|a);(#PCDATA|a) *;(#PCDATA)?;(#PCDATA)+;(#PCDATA,a)*;(#PCDATA|a?)*;\
         (#PCDATA|(a))*;(# PCDATA);(#pcdata);(#PCDATAa);(#PCDATA|)*;((#PCDATA))";
     for text in table.split(';') {
@@ -52,7 +54,13 @@ fn no_forms(rt: HostRuntime) -> Result<(), Fail> {
 }
 
 /// A text of three parts, the second many times.
-fn repeated(alloc: Global, front: &str, many: &str, times: usize, back: &str) -> Result<Text, NoMemory> {
+fn repeated(
+    alloc: Global,
+    front: &str,
+    many: &str,
+    times: usize,
+    back: &str,
+) -> Result<Text, NoMemory> {
     let mut text = Text::from_str(alloc, front)?;
     let part = Text::from_str(alloc, many)?;
     for _ in 0..times {
@@ -62,7 +70,14 @@ fn repeated(alloc: Global, front: &str, many: &str, times: usize, back: &str) ->
     Ok(text)
 }
 
-fn repeats(alloc: Global, front: &str, many: &str, times: usize, back: &str, answer: &str) -> Result<bool, NoMemory> {
+fn repeats(
+    alloc: Global,
+    front: &str,
+    many: &str,
+    times: usize,
+    back: &str,
+    answer: &str,
+) -> Result<bool, NoMemory> {
     let text = repeated(alloc, front, many, times, back)?;
     let answer = Text::from_str(alloc, answer)?;
     Ok(answer_of(alloc, &text)? == answer)
@@ -104,7 +119,11 @@ fn kind_of(alloc: Global, text: &str) -> Result<Option<TextKind>, NoMemory> {
         Ok(content) => {
             let copied = content.copy(alloc)?;
             let same = print_content(alloc, &copied)? == text;
-            Ok(if same { Some(text_kind(&content)) } else { None })
+            Ok(if same {
+                Some(text_kind(&content))
+            } else {
+                None
+            })
         }
         Err(_) => Ok(None),
     }
