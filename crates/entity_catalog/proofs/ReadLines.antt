@@ -8,10 +8,11 @@ use Rattle.std.proofs.lemmas.List.Elements.{filter-append, filter_map-append}
 use Rattle.std.proofs.lemmas.Map.Entries.{lookup-filter-keys}
 use Rattle.entity_catalog.specs.Lines.{Line}
 use Rattle.entity_catalog.specs.Named.{Named, Files, file_of}
-use Rattle.entity_catalog.specs.Catalogs.{system_in, public_in, fault_of, first_fault, firsts, with_first, with_each, with_line, named_in, read_lines}
+use Rattle.entity_catalog.specs.Catalogs.{system_in, public_in, fault_of, first_fault, firsts, named_in, read_lines}
+use Rattle.entity_catalog.specs.Steps.{with_first, with_each, with_line, ReadsLine}
 use Rattle.entity_catalog.specs.declared.faults.CatalogFault.{CatalogFault}
 use Rattle.entity_catalog.specs.declared.faults.CatalogFault.TheVariants.{Malformed, PathEscapes, NoMemory}
-use Rattle.entity_catalog.specs.Outcomes.{Reads, ReadsLine}
+use Rattle.entity_catalog.specs.Outcomes.{Reads}
 use Rattle.entity_catalog.proofs.Yielded.{StandsAt}
 
 or_assoc : {A : Type 0} (a b c : Option A) → option_or (option_or a b) c ≡ option_or a (option_or b c)

@@ -1,11 +1,11 @@
 -- What the text of a catalog names.
-use Rattle.std.specs.Prelude.{ℕ, ◌+◌, not, List, [], ◌∷◌, ◌++◌, filter, bytes_eq, Option, Some, None, is_some, if◌then◌else◌, Result, Ok, Err}
+use Rattle.std.specs.Prelude.{ℕ, ◌+◌, not, List, [], ◌∷◌, filter, bytes_eq, Option, Some, None, Result, Ok, Err}
 use Rattle.std.specs.Option.{option_map, option_or}
 use Rattle.std.specs.List.{filter_map}
 use Rattle.entity_catalog.specs.Collapse.{collapse_public}
 use Rattle.entity_catalog.specs.Join.{join}
 use Rattle.entity_catalog.specs.Lines.{Line, nothing, system, public, malformed, lines_of}
-use Rattle.entity_catalog.specs.Named.{Named, Files, file_of}
+use Rattle.entity_catalog.specs.Named.{Named, Files}
 use Rattle.entity_catalog.specs.declared.faults.CatalogFault.{CatalogFault}
 use Rattle.entity_catalog.specs.declared.faults.CatalogFault.TheVariants.{Malformed, PathEscapes}
 
@@ -49,22 +49,11 @@ abbrev pub firsts : Files → Files
 firsts [] = []
 firsts (file ∷ files) = file ∷ filter (λ later. not (bytes_eq file.0 later.0)) (firsts files)
 
--- one file more, where its identifier is new
-abbrev pub with_first : Files → (List ℕ × List ℕ) → Files
-with_first files file = if is_some (file_of files file.0) then files else files ++ file ∷ []
-
 -- what lines without fault name
 abbrev pub named_in : List ℕ → List Line → Named
 named_in place lines = record { systems = firsts (filter_map (system_in place) lines); publics = firsts (filter_map (public_in place) lines) }
 
-abbrev pub with_each : Files → Option (List ℕ × List ℕ) → Files
-with_each files None = files
-with_each files (Some file) = with_first files file
-
--- what is named once this line was read
-abbrev pub with_line : List ℕ → Named → Line → Named
-with_line place named line = record { systems = with_each named.systems (system_in place line); publics = with_each named.publics (public_in place line) }
-
+-- what lines name, or the fault of the first that has one
 abbrev pub read_lines : List ℕ → List Line → Result Named CatalogFault
 read_lines place lines = answer (first_fault place 1 lines)
   where

@@ -9,3 +9,4 @@ pub mod Outcomes
 pub mod Resolution
 pub mod Said
 pub mod Spelling
+pub mod Steps

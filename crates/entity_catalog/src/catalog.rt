@@ -6,7 +6,8 @@ ghost use Rattle.entity_catalog.specs.Catalogs as spec;
 ghost use Rattle.entity_catalog.specs.Join.{join};
 ghost use Rattle.entity_catalog.specs.Lines.{line_of as line_said, system, public};
 ghost use Rattle.entity_catalog.specs.Named.{file_of};
-ghost use Rattle.entity_catalog.specs.Outcomes.{NamesFile, Reads, ReadsLine};
+ghost use Rattle.entity_catalog.specs.Outcomes.{Reads};
+ghost use Rattle.entity_catalog.specs.Steps.{NamesFile, ReadsLine, with_first, with_line};
 
 use crate::CatalogFault;
 use crate::lines::{Line, line_of};
@@ -62,7 +63,7 @@ impl Catalog {
 
 /// Names the file of an identifier that is new. One that is there keeps its file.
 fn keep(files: &mut IndexMap<Text, Text>, identifier: Text, file: Text) -> Result<(), NoMemory>
-    ensures { OnOk result (files.new.entries ≡ spec.with_first files.old.entries (identifier, file)) }
+    ensures { OnOk result (files.new.entries ≡ with_first files.old.entries (identifier, file)) }
 {
     if files.contains_key(&identifier) {
         return Ok(());
@@ -91,7 +92,7 @@ impl Catalog {
         identifier: &[char],
         name: &[char],
     ) -> Result<(), CatalogFault>
-        ensures { let line = system identifier.now name.now in ReadsLine (spec.fault_of place.now number line) (spec.with_line place.now self.old line) self.new result }
+        ensures { let line = system identifier.now name.now in ReadsLine (spec.fault_of place.now number line) (with_line place.now self.old line) self.new result }
     {
         let file = file_named(alloc, place, number, name)?;
         let identifier = Text::from_slice(alloc, identifier)?;
@@ -107,7 +108,7 @@ impl Catalog {
         identifier: &[char],
         name: &[char],
     ) -> Result<(), CatalogFault>
-        ensures { let line = public identifier.now name.now in ReadsLine (spec.fault_of place.now number line) (spec.with_line place.now self.old line) self.new result }
+        ensures { let line = public identifier.now name.now in ReadsLine (spec.fault_of place.now number line) (with_line place.now self.old line) self.new result }
     {
         let file = file_named(alloc, place, number, name)?;
         let identifier = collapsed(alloc, identifier)?;
@@ -122,7 +123,7 @@ impl Catalog {
         number: u64,
         line: &[char],
     ) -> Result<(), CatalogFault>
-        ensures { let line = line_said line.now in ReadsLine (spec.fault_of place.now number line) (spec.with_line place.now self.old line) self.new result }
+        ensures { let line = line_said line.now in ReadsLine (spec.fault_of place.now number line) (with_line place.now self.old line) self.new result }
     {
         match line_of(line) {
             Line::Nothing => Ok(()),

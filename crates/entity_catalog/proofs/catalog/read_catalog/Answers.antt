@@ -4,7 +4,8 @@ use Rattle.std.proofs.lemmas.List.{map-append, length-map}
 use Rattle.std.proofs.lemmas.Result.{err_from_is_err_and}
 use Rattle.std.proofs.lemmas.Iterator.Splits.{YieldsList-from_slice_split}
 use Rattle.entity_catalog.specs.Lines.{Line, line_of, is_line_feed}
-use Rattle.entity_catalog.specs.Catalogs.{fault_of, with_line, read_lines, catalog_of}
+use Rattle.entity_catalog.specs.Catalogs.{fault_of, read_lines, catalog_of}
+use Rattle.entity_catalog.specs.Steps.{with_line}
 use Rattle.entity_catalog.proofs.ReadLines.{named_in-push, first_fault-push, first_fault-at, read_lines-named, Reads-line}
 use Rattle.entity_catalog.proofs.Yielded.{stands_at, stands-map, ends_at}
 use Rattle.entity_catalog.proofs.catalog.read_catalog.Goals as goal
