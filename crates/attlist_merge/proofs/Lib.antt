@@ -1,0 +1,4 @@
+pub mod Turns
+pub mod Kept
+pub mod Covering
+pub mod Showing

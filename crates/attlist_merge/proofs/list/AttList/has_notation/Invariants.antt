@@ -1,0 +1,7 @@
+use Rattle.std.proofs.Common.{◌≡◌, drop}
+use Rattle.std.specs.List.{list_any}
+use Rattle.attlist_merge.specs.Lists.{is_notation_entry}
+use Rattle.attlist_merge.proofs.list.AttList.has_notation.Given as goal
+
+abbrev pub invariant-loop-at : goal.invariant-loop-at
+invariant-loop-at l = list_any is_notation_entry (drop l.at l.self) ≡ list_any is_notation_entry l.self

@@ -1,0 +1,17 @@
+//! Lists of attributes.
+//!
+//! The body of an attribute-list declaration names an element and defines attributes: a name, a type and a preset each.
+//! An `AttList` keeps the definitions of one element in order of declaration, of which the first of a name binds, under
+//! the constraints of XML 1.0 (3.3.1 and 3.3.2). It finds them by hash.
+//!
+//! A list of values is right by a list of attributes where each of its attributes is declared and in its class, and each
+//! required one is there. `odd_att` compares two lists: it answers the first attribute by which values that are right by
+//! the first may be wrong by the second, and None exactly where there are no such values.
+#![tactic(auto)]
+
+mod check;
+mod list;
+mod odd;
+
+pub use list::{Att, AttFault, AttList, Definition};
+pub use odd::{OddAtt, lists_cover, odd_att};
