@@ -1,0 +1,258 @@
+//! Automata.
+
+ghost use Rattle.std.specs.Prelude.{◌≡◌, ◌≤◌, ◌<◌, ℕ, IfOk, MatchOption, false, slice_index_or, [], Contains, Some, None, if◌then◌else◌, slice_get, map, ◌-◌};
+ghost use Rattle.std.specs.Bool.{Decides};
+ghost use Rattle.std.specs.Option.{option_map};
+ghost use Rattle.content_models.specs.declared.content.Content.TheVariants.{Children};
+ghost use Rattle.content_models.specs.Model.{Chars, model, Derives};
+ghost use Rattle.content_models.specs.Proper.{IsProper};
+ghost use Rattle.position_automata.specs.Automata as spec;
+ghost use Rattle.position_automata.specs.Marked.{count};
+ghost use Rattle.position_automata.specs.Rows.{at_position};
+ghost use Rattle.position_automata.specs.Tables.{step_names, IsSimple, Builds};
+
+use crate::BuildFault;
+use crate::names::{distinct, has_name, number_of, spell};
+use crate::parts::{accepting, flags, model_pairs, model_rows};
+use crate::rows::Row;
+use content_models::{Content, Particle};
+use indexmap::IndexSet;
+use jats_chars::{ListOf, Name, NameList, NoMemory};
+use std::alloc::Global;
+use std::marker::Model;
+
+/// The position automaton of a deterministic content, seen as the content.
+#[derive(Drop)]
+pub struct Automaton {
+    content: Content,
+    letters: NameList,
+    names: IndexSet<Name>,
+    rows: ListOf<Row>,
+    accepting: Vec<bool>,
+}
+
+impl Model for Automaton {
+    ghost use Rattle.content_models.specs.declared.content.Content.{Content};
+    ghost use Rattle.content_models.specs.contracts.content.Particle as parts;
+    ghost use Rattle.std.specs.Coded.{codes};
+    ghost use Rattle.position_automata.specs.Tables.{IsTable};
+
+    ghost Value = { Content };
+
+    ghost coded = { Prim.hlevel (codes, parts.the_row.coded) };
+
+    ghost view = { λ a. a.content };
+
+    ghost invariant = { λ a. IsTable a.content a.letters a.names.keys a.rows a.accepting.items };
+}
+
+fn copy_names(alloc: Global, names: &[Name]) -> Result<NameList, NoMemory>
+    ensures { IfOk result (λ copied. copied ≡ names.now) }
+{
+    let mut copied = NameList::new(alloc);
+    for name in names {
+        copied.push(name.copy(alloc)?)?;
+    }
+    Ok(copied)
+}
+
+fn build_simple(alloc: Global, content: &Content, letters: NameList) -> Result<Automaton, NoMemory>
+    requires proper { IsProper content.now }
+    requires simple { IsSimple content.now }
+    requires letters { letters ≡ step_names content.now }
+    ensures { IfOk result (λ a. a ≡ content.now) }
+{
+    let names = distinct(alloc, letters.as_slice())?;
+    let mut rows = ListOf::new(alloc);
+    rows.push(Row::new(alloc))?;
+    let accepting = flags(alloc, 1, true)?;
+    Ok(Automaton {
+        content: content.copy(alloc)?,
+        letters,
+        names,
+        rows,
+        accepting,
+    })
+}
+
+fn build_model(alloc: Global, content: &Content, part: &Particle) -> Result<Automaton, BuildFault>
+    requires proper { IsProper content.now }
+    requires is { content.now ≡ Children part.now }
+    requires small { count (model part.now) ≤ 1024 }
+    ensures { Builds content.now result }
+{
+    let mut letters = NameList::new(alloc);
+    spell(alloc, part, &mut letters)?;
+    let (ends, found) = model_pairs(alloc, part)?;
+    let accepting = accepting(
+        alloc,
+        letters.len() + 1,
+        ends.nullable,
+        ends.last.as_slice(),
+    )?;
+    let names = distinct(alloc, letters.as_slice())?;
+    match model_rows(alloc, part, letters.as_slice(), &names, found.as_slice()) {
+        Err(fault) => Err(fault),
+        Ok(rows) => Ok(Automaton {
+            content: content.copy(alloc)?,
+            letters,
+            names,
+            rows,
+            accepting,
+        }),
+    }
+}
+
+/// The automaton of a content, or the two positions for which the content is not deterministic.
+pub fn build(alloc: Global, content: &Content) -> Result<Automaton, BuildFault>
+    requires { IsProper content.now }
+    ensures { Builds content.now result }
+{
+    match content {
+        Content::Children(part) => build_model(alloc, content, part),
+        Content::Mixed(listed) => {
+            let letters = copy_names(alloc, listed.as_slice())?;
+            Ok(build_simple(alloc, content, letters)?)
+        }
+        Content::Empty | Content::Any => Ok(build_simple(alloc, content, NameList::new(alloc))?),
+    }
+}
+
+fn flag_at(flags: &[bool], at: usize) -> bool
+    ensures { result ≡ slice_index_or flags.now at false }
+{
+    match flags.get(at) {
+        Some(flag) => *flag,
+        None => false,
+    }
+}
+
+fn name_at(letters: &NameList, position: u32) -> Option<(&Name, u32)>
+    requires { 0 < position }
+    ensures { option_map {U = Chars × ℕ} (λ s. (s.0.now, s.1)) result ≡ option_map {U = Chars × ℕ} (λ name. (name, position)) (slice_get letters.now (position - 1)) }
+{
+    match letters.get((position - 1) as usize) {
+        Some(name) => Some((name, position)),
+        None => None,
+    }
+}
+
+fn position_step(letters: &NameList, position: Option<u32>) -> Option<(&Name, u32)>
+    ensures { option_map {U = Chars × ℕ} (λ s. (s.0.now, s.1)) result ≡ at_position letters.now position }
+{
+    match position {
+        None => None,
+        Some(p) => { if p == 0 { None } else { name_at(letters, p) } }
+    }
+}
+
+fn listed_at(letters: &NameList, k: usize) -> Option<(&Name, u32)>
+    ensures { option_map {U = Chars × ℕ} (λ s. (s.0.now, s.1)) result ≡ slice_get (map {B = Chars × ℕ} (λ name. (name, 0)) letters.now) k }
+{
+    match letters.get(k) {
+        Some(name) => Some((name, 0)),
+        None => None,
+    }
+}
+
+fn row_position(rows: &[Row], state: u32, k: usize) -> Option<u32>
+    ensures { result ≡ option_map (λ s. s.1) (slice_get (slice_index_or rows.now state []) k) }
+{
+    match rows.get(state as usize) {
+        Some(row) => row.position(k),
+        None => None,
+    }
+}
+
+fn start_if(wanted: bool) -> Option<u32>
+    ensures { result ≡ (if wanted then Some 0 else None) }
+{
+    if wanted { Some(0) } else { None }
+}
+
+fn row_step(rows: &[Row], state: u32, number: usize) -> Option<u32>
+    ensures { MatchOption result
+        ((p : ℕ) → Contains (slice_index_or rows.now state []) (number, p) → ⊥)
+        (λ p. Contains (slice_index_or rows.now state []) (number, p)) }
+{
+    match rows.get(state as usize) {
+        Some(row) => row.step_on(number),
+        None => None,
+    }
+}
+
+impl Automaton {
+    /// How many states there are: the start, and one for each occurrence of a name in a model.
+    pub fn states(&self) -> u32
+        ensures states { result ≡ spec.states self.now }
+        ensures deterministic { spec.IsDeterministic self.now }
+    {
+        self.rows.len() as u32
+    }
+
+    /// The same automaton, built again from its content.
+    pub fn copy(&self, alloc: Global) -> Result<Automaton, NoMemory>
+        ensures { IfOk result (λ a. a ≡ self.now) }
+    {
+        match build(alloc, &self.content) {
+            Ok(automaton) => Ok(automaton),
+            Err(_) => Err(NoMemory),
+        }
+    }
+
+    /// Whether a list of names may end in this state.
+    pub fn accepts_at(&self, state: u32) -> bool
+        requires { state < spec.states self.now }
+        ensures { Decides result (spec.Accepts self.now state) }
+    {
+        flag_at(self.accepting.as_slice(), state as usize)
+    }
+
+    /// The state that follows on this name, or None exactly where none does.
+    pub fn step(&self, state: u32, name: &Name) -> Option<u32>
+        requires { state < spec.states self.now }
+        ensures { spec.IsStep self.now state name.now result }
+    {
+        match &self.content {
+            Content::Any => Some(0),
+            Content::Empty => None,
+            Content::Mixed(_) => start_if(has_name(&self.names, name)),
+            Content::Children(_) => row_step(
+                self.rows.as_slice(),
+                state,
+                number_of(&self.names, name),
+            ),
+        }
+    }
+
+    /// The k-th step of a state, counted from 0: those of a model stand by position, those of mixed content as its names
+    /// are listed, each to state 0; at ANY none is told.
+    pub fn step_of(&self, state: u32, k: usize) -> Option<(&Name, u32)>
+        requires { state < spec.states self.now }
+        ensures { spec.TellsStep self.now state k (option_map {U = Chars × ℕ} (λ s. (s.0.now, s.1)) result) }
+    {
+        match &self.content {
+            Content::Children(_) => position_step(
+                &self.letters,
+                row_position(self.rows.as_slice(), state, k),
+            ),
+            Content::Mixed(_) => listed_at(&self.letters, k),
+            Content::Empty | Content::Any => None,
+        }
+    }
+
+    /// Whether the content derives these names.
+    pub fn run(&self, names: &NameList) -> bool
+        ensures { Decides result (Derives self.now names.now) }
+    {
+        let _ = &self.content;
+        let mut state = 0;
+        for name in names.as_slice() {
+            match self.step(state, name) {
+                Some(next) => state = next,
+                None => return false,
+            }
+        }
+        self.accepts_at(state)
+    }
+}

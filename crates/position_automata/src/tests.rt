@@ -1,0 +1,88 @@
+//! Automata of small models.
+
+ghost use Rattle.std.specs.Prelude.{IfOk, IfSome};
+ghost use Rattle.content_models.specs.Proper.{IsProper};
+
+use crate::{BuildFault, build};
+use content_models::{Content, parse_content};
+use jats_chars::{Name, NameList, NoMemory, Text};
+use std::alloc::Global;
+use std::test::Fail;
+
+fn content_of(alloc: Global, text: &str) -> Result<Option<Content>, NoMemory>
+    ensures { IfOk result (λ o. IfSome o IsProper) }
+{
+    let text = Text::from_str(alloc, text)?;
+    match parse_content(alloc, &text) {
+        Ok(content) => Ok(Some(content)),
+        Err(_) => Ok(None),
+    }
+}
+
+fn names_of(alloc: Global, text: &str) -> Result<NameList, NoMemory> {
+    let mut names = NameList::new(alloc);
+    for word in text.split(' ') {
+        let word = Text::from_str(alloc, word)?;
+        if let Some(name) = Name::from_text(alloc, &word)? {
+            names.push(name)?;
+        }
+    }
+    Ok(names)
+}
+
+/// Whether the model is accepted and derives the names.
+fn derives(alloc: Global, model: &str, names: &str) -> Result<bool, NoMemory> {
+    let names = names_of(alloc, names)?;
+    match content_of(alloc, model)? {
+        None => Ok(false),
+        Some(content) => match build(alloc, &content) {
+            Ok(automaton) => Ok(automaton.run(&names)),
+            Err(_) => Ok(false),
+        },
+    }
+}
+
+/// The two positions for which the model is not deterministic.
+fn clash_of(alloc: Global, model: &str) -> Result<Option<(u32, u32)>, NoMemory> {
+    match content_of(alloc, model)? {
+        None => Ok(None),
+        Some(content) => match build(alloc, &content) {
+            Err(BuildFault::Ambiguous(p, q)) => Ok(Some((p, q))),
+            _ => Ok(None),
+        },
+    }
+}
+
+#[test]
+fn derived(rt: HostRuntime) -> Result<(), Fail> {
+    let table =
+        "(a,(b|c))=a b;(a,(b|c))=a c;(a,b?)=a;(a*)=;(a*)=a a a;(a+)=a;((a,b)+)=a b a b;((a|b)*,c?)=a b b c;EMPTY=;ANY=x y;\
+        (#PCDATA|a|b)*=b a b;(#PCDATA)=;(p,(p,(p,(p,p?)?)?)?)=p p p;((a?,b)?,c)=c;((a?,b)?,c)=b c";
+    for row in table.split(';') {
+        let (model, names) = row.split_once('=').ok_or("a row without names")?;
+        assert!(rt; derives(rt.alloc(), model, names)?, "{row}");
+    }
+    Ok(())
+}
+
+#[test]
+fn not_derived(rt: HostRuntime) -> Result<(), Fail> {
+    let table =
+        "(a,(b|c))=a;(a,(b|c))=a b c;(a,(b|c))=b;(a+)=;((a,b)+)=a b a;EMPTY=a;(#PCDATA|a|b)*=c;(#PCDATA)=a;\
+        (p,(p,(p,(p,p?)?)?)?)=p p p p p p;((a?,b)?,c)=a c;((a|b)*,c?)=c c";
+    for row in table.split(';') {
+        let (model, names) = row.split_once('=').ok_or("a row without names")?;
+        assert!(rt; !derives(rt.alloc(), model, names)?, "{row}");
+    }
+    Ok(())
+}
+
+#[test]
+fn ambiguous(rt: HostRuntime) -> Result<(), Fail> {
+    assert_eq!(rt; clash_of(rt.alloc(), "((a,b)|(a,c))")?, Some((1, 3)));
+    assert_eq!(rt; clash_of(rt.alloc(), "(a?,a)")?, Some((1, 2)));
+    assert_eq!(rt; clash_of(rt.alloc(), "(x,(a|b|b|a))")?, Some((2, 5)));
+    assert_eq!(rt; clash_of(rt.alloc(), "((a|b)*,b)")?, Some((2, 3)));
+    assert_eq!(rt; clash_of(rt.alloc(), "((a,b)|(c,b))")?, None);
+    Ok(())
+}
