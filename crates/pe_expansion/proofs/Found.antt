@@ -1,0 +1,22 @@
+-- Names that are found.
+use Rattle.std.proofs.Common.{◌≡◌, ℕ, List, [], ◌∷◌, Bool, true, false, cond, Option, Some, None, IfSome, option_map, unwrap_or, refl, sym, ap, bytes_eq}
+use Rattle.std.specs.Map.{lookup, lookup_key, set_value}
+use Rattle.std.proofs.lemmas.Map.Made.{lookup_key_same}
+use Rattle.std.proofs.lemmas.Slice.Eq.{bytes_eq-Decides}
+use Rattle.pe_expansion.specs.declared.bindings.PeText.{PeText}
+use Rattle.pe_expansion.specs.Bound.{Bound, text_bound, given_text, with_outer}
+
+-- the name that is found is the name that was sought
+pub found_name : {X A : Type 0} (f : A → List ℕ) (name : List ℕ) (es : List (List ℕ × X)) (o : Option A) → option_map f o ≡ lookup_key (bytes_eq name) es → IfSome o (λ a. f a ≡ name)
+found_name f name es None is = tt
+found_name f name es (Some a) is = sym (lookup_key_same bytes_eq-Decides name es (f a) (sym is))
+
+-- a text written where the name is found
+pub written_outer : (bound : Bound) (name text : List ℕ) (v : PeText) → text_bound bound name ≡ Some v → set_value (bytes_eq name) bound (given_text text v) ≡ with_outer bound name text
+written_outer [] name text v is = refl
+written_outer (b ∷ bs) name text v is = by (bytes_eq name b.0) is (written_outer bs name text v)
+  where
+    by : (same : Bool) → cond same (Some b.1) (lookup (bytes_eq name) bs) ≡ Some v → (text_bound bs name ≡ Some v → set_value (bytes_eq name) bs (given_text text v) ≡ with_outer bs name text)
+        → cond same ((b.0, given_text text v) ∷ bs) (b ∷ set_value (bytes_eq name) bs (given_text text v)) ≡ cond same ((b.0, given_text text b.1) ∷ bs) (b ∷ with_outer bs name text)
+    by true here later = let same : b.1 ≡ v = ap (λ o. unwrap_or o v) here in rw same refl
+    by false there later = ap (λ rest. b ∷ rest) (later there)

@@ -1,0 +1,9 @@
+pub mod Bound
+pub mod BoundBy
+pub mod Binds
+pub mod Ignored
+pub mod Pieces
+pub mod Opening
+pub mod Expansion
+pub mod Outcomes
+pub mod Frames

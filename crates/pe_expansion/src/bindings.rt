@@ -1,0 +1,123 @@
+//! What parameter entities are bound to.
+
+ghost use Rattle.std.specs.Prelude.{◌≡◌, [], option_map, IfSome};
+ghost use Rattle.std.specs.Option.{option_copied};
+ghost use Rattle.pe_expansion.specs.Bound.{IsOuter, given_text, with_outer, text_bound, none_bound};
+ghost use Rattle.pe_expansion.specs.Binds.{Binds};
+
+use entity_catalog::Ids;
+use indexmap::{Equivalent, IndexMap};
+use jats_chars::{Name, NoMemory, Text};
+use std::alloc::Global;
+use std::marker::Model;
+
+/// What a parameter entity is bound to (XML 1.0, 4.2).
+#[derive(Debug, Drop, PartialEq, Eq)]
+pub enum PeText {
+    /// The text of an inner entity.
+    Inner(Text),
+    /// The identifiers of an outer entity, the name of the module in whose reading its declaration stood, and its text
+    /// once it is loaded.
+    Outer {
+        ids: Ids,
+        base: Text,
+        text: Option<Text>,
+    },
+}
+
+/// The parameter entities that are bound, seen as the list of names with what they are bound to, in order of binding.
+#[derive(Drop)]
+pub struct Bindings {
+    entries: IndexMap<Name, PeText>,
+}
+
+impl Model for Bindings {
+    ghost use Rattle.pe_expansion.specs.Bound.{Bound};
+    ghost use Rattle.pe_expansion.specs.BoundBy.{bound_by};
+
+    ghost Value = { Bound };
+
+    ghost view = { bound_by };
+}
+
+/// A name as it stands in a text.
+#[derive(Clone, Copy, PartialEq, Eq, Hash)]
+struct Spelled<'a> {
+    name: &'a [char],
+}
+
+impl Equivalent<Name> for Spelled<'_> {
+    ghost use Rattle.std.specs.Prelude.{bytes_eq};
+    ghost use Rattle.std.specs.Cmp.Lexicographic.{nat_list_eq_equiv};
+    ghost use Rattle.std.proofs.Common.{rules};
+    ghost use Rattle.std.specs.Cmp.Rules.{hashing};
+
+    ghost equivalent = { λ q k. bytes_eq q.name.now k };
+
+    ghost respects_hash = { Prim.search (hashing, rules) };
+
+    ghost respects_eq = { λ q. nat_list_eq_equiv.congr q.name.now };
+
+    fn equivalent(&self, key: &Name) -> bool {
+        self.name == key.text().as_slice()
+    }
+}
+
+/// Gives an outer entity its text.
+fn give_text(entity: &mut PeText, text: Text)
+    ensures { entity.new ≡ given_text text entity.old }
+{
+    if let PeText::Outer { text: place, .. } = entity {
+        *place = Some(text);
+    }
+}
+
+impl Bindings {
+    /// No entity is bound.
+    pub fn new(alloc: Global) -> Bindings
+        ensures { result ≡ none_bound }
+    {
+        Bindings {
+            entries: IndexMap::new(alloc),
+        }
+    }
+
+    /// Binds a name that is not bound, behind those that are, and answers true. The first declaration of an entity binds
+    /// (XML 1.0, 4.2): where the name is bound the answer is false, and nothing changes.
+    pub fn bind(&mut self, name: Name, text: PeText) -> Result<bool, NoMemory>
+        ensures { Binds self.old self.new name text result }
+    {
+        if self.entries.contains_key(&name) {
+            return Ok(false);
+        }
+        match self.entries.insert(name, text) {
+            Ok(_) => Ok(true),
+            Err(_) => Err(NoMemory),
+        }
+    }
+
+    /// What a name is bound to, or None exactly where it is not bound.
+    pub fn text_of(&self, name: &Name) -> Option<&PeText>
+        ensures { option_copied result ≡ text_bound self.now name.now }
+    {
+        self.entries.get(name)
+    }
+
+    /// The name as it is bound, and what it is bound to, or None exactly where it is not bound.
+    pub(crate) fn found(&self, name: &[char]) -> Option<(&Name, &PeText)>
+        ensures name { IfSome result (λ p. p.0.now ≡ name.now) }
+        ensures text { option_map (λ p. p.1.now) result ≡ text_bound self.now name.now }
+    {
+        self.entries.get_key_value(Spelled { name })
+    }
+
+    /// Gives an outer entity its text. Nothing else changes, and no memory is taken.
+    pub fn set_outer(&mut self, name: &Name, text: Text)
+        requires { IsOuter (text_bound self.old name.now) }
+        ensures { self.new ≡ with_outer self.old name.now text }
+    {
+        if let Some(entity) = self.entries.get_mut(name) {
+            give_text(entity, text);
+        }
+    }
+}
