@@ -1,6 +1,7 @@
 pub mod Choices
 pub mod Deciding
 pub mod Exchange
+pub mod Following
 pub mod Found
 pub mod Letters
 pub mod Lists

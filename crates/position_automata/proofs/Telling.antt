@@ -10,7 +10,7 @@ use Rattle.content_models.specs.declared.content.Content.TheVariants.{Children}
 use Rattle.content_models.specs.declared.content.Particle.{Particle}
 use Rattle.content_models.specs.Model.{Chars, model}
 use Rattle.content_models.specs.Re.{Re}
-use Rattle.position_automata.specs.Automata.{states, TellsStep}
+use Rattle.position_automata.specs.Automata.{states, IsSteps, TellsStep}
 use Rattle.position_automata.specs.Marked.{count, Follows}
 use Rattle.position_automata.specs.Places.{letters, pairs}
 use Rattle.position_automata.specs.Rows.{targets, numbers_of, number_at, IsRow, at_position}
@@ -77,6 +77,11 @@ module _ (r : Re Chars) (numbers : List ℕ) (i : ℕ) (row : List (ℕ × ℕ))
 got : (row : List (ℕ × ℕ)) (k : ℕ) (x : ℕ × ℕ) → slice_get row k ≡ Some x → Member x row
 got row k x e = member_of row x k (slice_get_within row k x e) (get_or_from_slice_get row k x x e)
 
+pub row_steps : (part : Particle) (numbers : List ℕ) (i : ℕ) (row : List (ℕ × ℕ)) → IsRow numbers (targets i (pairs (model part))) row
+    → IsSteps (Children part) i (map (step_of (letters (model part))) row)
+row_steps part numbers i row R =
+    let r = model part in (steps_rise r numbers i row R, (λ name j. (steps_to r numbers i row R name j, steps_from r numbers i row R name j)))
+
 tells_at : (part : Particle) (names keys : List Chars) (rows : List (List (ℕ × ℕ))) (accepting : List Bool) (i k : ℕ)
     → IsTable (Children part) names keys rows accepting → i < 1 + count (model part)
     → TellsStep (Children part) i k (at_position names (option_map (λ s. s.1) (slice_get (get_or rows i []) k)))
@@ -85,7 +90,7 @@ tells_at part names keys rows accepting i k T h =
     let row = get_or rows i [] in
     let R : IsRow (numbers_of keys names) (targets i (pairs r)) row = T.rows_are i h in (
       map (step_of (letters r)) row,
-      (steps_rise r (numbers_of keys names) i row R, λ name j. (steps_to r (numbers_of keys names) i row R name j, steps_from r (numbers_of keys names) i row R name j)),
+      row_steps part (numbers_of keys names) i row R,
       ap (λ ns. at_position ns (option_map (λ s. s.1) (slice_get row k))) T.names_are
           ∙ told r (numbers_of keys names) i row R (slice_get row k) (λ x e. got row k x e)
           ∙ sym (slice_get-map (step_of (letters r)) row k),

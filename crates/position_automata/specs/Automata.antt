@@ -1,6 +1,6 @@
 -- The states of a content and what they do (XML 1.0, 3.2.1 and Appendix E).
-use Rattle.std.specs.Prelude.{◌≡◌, ◌≤◌, ◌<◌, ℕ, ◌+◌, List, [], ◌∷◌, IsTrue, Option, MatchOption, map, Contains, slice_get, ◌↔◌}
-use Rattle.std.specs.List.{list_all}
+use Rattle.std.specs.Prelude.{◌≡◌, ◌≤◌, ◌<◌, ℕ, ◌+◌, List, [], ◌∷◌, IsTrue, Option, MatchOption, map, Contains, slice_get, slice_index_or, length, ◌↔◌}
+use Rattle.std.specs.List.{list_all, sum_by}
 use Rattle.std.specs.List.Sorted.{IsStrictlyIncreasing}
 use Rattle.content_models.specs.declared.content.Content.{Content}
 use Rattle.content_models.specs.declared.content.Content.TheVariants.{Empty, Any, Mixed, Children}
@@ -67,3 +67,9 @@ IsSteps _ i steps = steps ≡ []
 -- the k-th step of a state
 abbrev pub TellsStep : Content → ℕ → ℕ → Option (Chars × ℕ) → Type 0
 TellsStep content i k step = (steps : List (Chars × ℕ)) × IsSteps content i steps × (step ≡ slice_get steps k)
+
+-- the number of pairs of a state and one of its steps: all states' steps together
+abbrev pub IsFollows : Content → ℕ → Type 0
+IsFollows content n =
+    (rows : List (List (Chars × ℕ))) × (length rows ≡ states content)
+    × ((i : ℕ) → i < states content → IsSteps content i (slice_index_or rows i [])) × (n ≡ sum_by length rows)

@@ -14,7 +14,7 @@ ghost use Rattle.position_automata.specs.Tables.{step_names, IsSimple, Builds};
 use crate::BuildFault;
 use crate::names::{distinct, has_name, number_of, spell};
 use crate::parts::{accepting, flags, model_pairs, model_rows};
-use crate::rows::Row;
+use crate::rows::{Row, total_len};
 use content_models::{Content, Particle};
 use indexmap::IndexSet;
 use jats_chars::{ListOf, Name, NameList, NoMemory};
@@ -238,6 +238,18 @@ impl Automaton {
             ),
             Content::Mixed(_) => listed_at(&self.letters, k),
             Content::Empty | Content::Any => None,
+        }
+    }
+
+    /// The number of pairs of a state and a position that may come next: of mixed content the number of its names, and 0
+    /// at EMPTY and ANY.
+    pub fn follows(&self) -> u64
+        ensures { spec.IsFollows self.now result }
+    {
+        match &self.content {
+            Content::Children(_) => total_len(self.rows.as_slice()),
+            Content::Mixed(_) => self.letters.len() as u64,
+            Content::Empty | Content::Any => 0,
         }
     }
 

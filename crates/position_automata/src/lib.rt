@@ -7,9 +7,9 @@
 //! accepts.
 //!
 //! `build` gives an `Automaton` exactly where a content is deterministic. A contract sees the automaton as its content,
-//! so that `step`, `step_of`, `accepts_at` and `run` speak of the definitions directly. Inside, a walk over the model
-//! finds its first and last names and the pairs that may stand side by side; each state keeps its row of positions in
-//! order, with a look-up by the number of a name.
+//! so that `step`, `step_of`, `follows`, `accepts_at` and `run` speak of the definitions directly. Inside, a walk over
+//! the model finds its first and last names and the pairs that may stand side by side; each state keeps its row of
+//! positions in order, with a look-up by the number of a name.
 #![tactic(auto)]
 
 mod automaton;

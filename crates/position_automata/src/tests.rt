@@ -3,7 +3,7 @@
 ghost use Rattle.std.specs.Prelude.{IfOk, IfSome};
 ghost use Rattle.content_models.specs.Proper.{IsProper};
 
-use crate::{BuildFault, build};
+use crate::{Automaton, BuildFault, build};
 use content_models::{Content, parse_content};
 use jats_chars::{Name, NameList, NoMemory, Text};
 use std::alloc::Global;
@@ -51,6 +51,59 @@ fn clash_of(alloc: Global, model: &str) -> Result<Option<(u32, u32)>, NoMemory> 
             _ => Ok(None),
         },
     }
+}
+
+fn automaton_of(alloc: Global, model: &str) -> Result<Option<Automaton>, NoMemory> {
+    match content_of(alloc, model)? {
+        None => Ok(None),
+        Some(content) => match build(alloc, &content) {
+            Ok(automaton) => Ok(Some(automaton.copy(alloc)?)),
+            Err(_) => Ok(None),
+        },
+    }
+}
+
+fn accepts(automaton: &Automaton, state: u32) -> bool {
+    state < automaton.states() && automaton.accepts_at(state)
+}
+
+fn step_at(automaton: &Automaton, state: u32, name: &Name) -> Option<u32> {
+    if state < automaton.states() {
+        automaton.step(state, name)
+    } else {
+        None
+    }
+}
+
+/// Where the k-th step of a state leads, if it is on this name.
+fn told_at(automaton: &Automaton, state: u32, k: usize, name: &Name) -> Option<u32> {
+    if state < automaton.states() {
+        match automaton.step_of(state, k) {
+            Some((found, next)) if found == name => Some(next),
+            _ => None,
+        }
+    } else {
+        None
+    }
+}
+
+#[test]
+fn told(rt: HostRuntime) -> Result<(), Fail> {
+    let p = Text::from_str(rt.alloc(), "p")?;
+    let p = Name::from_text(rt.alloc(), &p)?.ok_or("no name")?;
+    let chain = "(p,(p,(p,(p,p?)?)?)?)";
+    for (model, states, follows, next) in [("(p+)", 2, 2, 1), (chain, 6, 5, 2)] {
+        let automaton = automaton_of(rt.alloc(), model)?.ok_or("no automaton")?;
+        assert_eq!(rt; automaton.states(), states);
+        assert_eq!(rt; automaton.follows(), follows);
+        assert_eq!(rt; step_at(&automaton, 0, &p), Some(1));
+        assert_eq!(rt; step_at(&automaton, 1, &p), Some(next));
+        assert_eq!(rt; told_at(&automaton, 1, 0, &p), Some(next));
+        assert_eq!(rt; told_at(&automaton, 1, 1, &p), None);
+        assert!(rt; !accepts(&automaton, 0));
+        assert!(rt; accepts(&automaton, 1));
+    }
+    Ok(())
 }
 
 #[test]
