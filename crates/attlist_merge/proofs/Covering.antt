@@ -1,7 +1,7 @@
 -- Where nothing is odd, each list of values goes over.
 use Rattle.std.proofs.Common.{◌≡◌, ◌∙◌, ℕ, Bool, true, false, cond, not, ◌||◌, ◌&&◌, List, [], ◌∷◌, refl, sym, ap, subst, Some, None, bytes_eq, IsTrue}
 use Rattle.std.specs.Prelude.{Option, option_map, is_none, ◌↔◌}
-use Rattle.std.specs.List.{list_any, list_all, AllByRecursion}
+use Rattle.std.specs.List.{list_any, list_all}
 use Rattle.std.specs.Option.{option_map_or, option_or}
 use Rattle.std.proofs.lemmas.Bool.{both_ways, and_parts, and_from}
 use Rattle.attribute_types.specs.Classes.{in_class}
@@ -14,7 +14,7 @@ use Rattle.attlist_merge.specs.declared.list.Definition.{Definition}
 use Rattle.attlist_merge.specs.declared.odd.OddAtt.{OddAtt}
 use Rattle.attlist_merge.specs.declared.odd.OddAtt.TheVariants as odd
 use Rattle.attlist_merge.specs.Lists.{Entry, Definitions, definition_of, is_required, IsSound, IsKept}
-use Rattle.attlist_merge.specs.Values.{Values, is_allowed, is_given, is_right, CoversList}
+use Rattle.attlist_merge.specs.Values.{Values, is_allowed, is_given, CoversList}
 use Rattle.attlist_merge.specs.Oddness.{first_some, against, odd_value, requires, odd_missing, odd_of}
 use Rattle.attlist_merge.proofs.Kept.{sound_found}
 

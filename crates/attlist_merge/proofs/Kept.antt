@@ -1,28 +1,26 @@
 -- What a list of attributes keeps.
-use Rattle.std.proofs.Common.{◌≡◌, ◌∙◌, ℕ, zero, suc, Bool, true, false, cond, not, ◌||◌, ◌&&◌, List, [], ◌∷◌, ◌++◌, refl, sym, ap, subst, Some, None, slice_get, bytes_eq, is_some, is_none, IsTrue, Bor}
+use Rattle.std.proofs.Common.{◌≡◌, ℕ, zero, suc, Bool, true, false, cond, not, ◌||◌, ◌&&◌, List, [], ◌∷◌, ◌++◌, refl, sym, ap, subst, Some, None, slice_get, bytes_eq, is_none, IsTrue, Bor}
 use Rattle.std.specs.Prelude.{Option, IfSome, Result, Ok, Err, OnOk, OnErr, option_map}
 use Rattle.std.specs.List.{list_any, list_all, AllByRecursion}
-use Rattle.std.specs.Option.{option_map_or, option_copied}
+use Rattle.std.specs.Option.{option_copied}
 use Rattle.jats_chars.specs.declared.NoMemory.{NoMemory}
-use Rattle.std.specs.Map.{lookup}
-use Rattle.std.proofs.lemmas.Bool.{both_ways, and_parts, and_from}
+use Rattle.std.proofs.lemmas.Bool.{and_parts, and_from}
 use Rattle.jats_chars.specs.Names.{is_nmtoken, is_nmtokens}
 use Rattle.attribute_types.specs.declared.types.AttType.{AttType}
 use Rattle.attribute_types.specs.declared.types.AttType.TheVariants as kind
 use Rattle.attribute_types.specs.declared.types.Preset.{Preset}
 use Rattle.attribute_types.specs.declared.types.Preset.TheVariants as preset
-use Rattle.attribute_types.specs.declared.classes.ValueClass.{ValueClass}
 use Rattle.attribute_types.specs.Spacing.{collapsed, is_filled}
-use Rattle.attribute_types.specs.Classes.{among, in_class}
+use Rattle.attribute_types.specs.Classes.{among}
 use Rattle.attribute_types.specs.Types.{class_of_type, class_of}
 use Rattle.attribute_types.specs.Proper.{IsProper}
-use Rattle.attribute_types.proofs.TextTests.{on_test, bytes_same, bytes_own, bytes_swap, all_among}
+use Rattle.attribute_types.proofs.TextTests.{on_test, bytes_same, bytes_swap, all_among}
 use Rattle.attribute_types.proofs.Collapsing.{name_nmtokens, names_nmtokens, nmtoken_nmtokens}
 use Rattle.attlist_merge.specs.declared.list.Att.{Att}
 use Rattle.attlist_merge.specs.declared.list.Definition.{Definition}
 use Rattle.attlist_merge.specs.declared.list.AttFault.{AttFault}
-use Rattle.attlist_merge.specs.Lists.{Entry, Definitions, definition_of, doubled, has_id_value, is_outside, is_settled, value_in, is_id, has_id, is_id_entry, is_notation, has_notation, is_notation_entry, IsSound, IsKept, are_distinct, at_most_one}
-use Rattle.attlist_merge.specs.Adding.{IsReady, defined, is_there, fault_of, second_fault, or_doubled}
+use Rattle.attlist_merge.specs.Lists.{Entry, Definitions, definition_of, doubled, has_id_value, is_outside, is_settled, is_id, has_id, is_id_entry, is_notation, has_notation, is_notation_entry, IsSound, IsKept, are_distinct, at_most_one}
+use Rattle.attlist_merge.specs.Adding.{IsReady, defined, fault_of, or_doubled}
 
 -- ---- what each definition keeps
 

@@ -2,3 +2,8 @@ pub mod Turns
 pub mod Kept
 pub mod Covering
 pub mod Showing
+pub mod Numerals
+pub mod Tokens
+pub mod Fronts
+pub mod Sound
+pub mod Complete

@@ -10,7 +10,7 @@ use Rattle.attribute_types.specs.Classes.{in_class}
 use Rattle.attribute_types.specs.Proper.{sample_of}
 use Rattle.attribute_types.specs.Table as table
 use Rattle.attribute_types.specs.Table.{Uncovered, uncovered}
-use Rattle.attribute_types.proofs.TextTests.{on_test, bytes_same, bytes_own, bytes_swap}
+use Rattle.attribute_types.proofs.TextTests.{on_test, bytes_same, bytes_own}
 use Rattle.attribute_types.proofs.Cells.{sample_in}
 use Rattle.attribute_types.proofs.Uncovering.{uncovered_tells}
 use Rattle.attlist_merge.specs.declared.list.Definition.{Definition}

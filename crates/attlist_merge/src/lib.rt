@@ -1,6 +1,9 @@
 //! Lists of attributes.
 //!
 //! The body of an attribute-list declaration names an element and defines attributes: a name, a type and a preset each.
+//! `parse_attlist` reads it into a `RawAttList`, with values unread between their quotes. `IsAttlist` says how a body is
+//! written, and by `attlist_law` exactly that is read.
+//!
 //! An `AttList` keeps the definitions of one element in order of declaration, of which the first of a name binds, under
 //! the constraints of XML 1.0 (3.3.1 and 3.3.2). It finds them by hash.
 //!
@@ -10,8 +13,17 @@
 #![tactic(auto)]
 
 mod check;
+mod laws;
 mod list;
 mod odd;
+mod parse;
+mod raw;
+#[cfg(test)]
+mod tests;
+mod value;
 
+pub use laws::attlist_law;
 pub use list::{Att, AttFault, AttList, Definition};
 pub use odd::{OddAtt, lists_cover, odd_att};
+pub use parse::{ListFault, parse_attlist};
+pub use raw::{RawAtt, RawAttList, RawAtts, RawPreset};

@@ -1,6 +1,6 @@
-use Rattle.std.proofs.Common.{◌∙◌, sym, arith}
+use Rattle.std.proofs.Common.{◌∙◌, sym}
 use Rattle.attlist_merge.specs.Lists.{is_notation_entry}
-use Rattle.attlist_merge.proofs.Turns.{any_found, any_next, any_none}
+use Rattle.attlist_merge.proofs.Turns.{any_found, any_next}
 use Rattle.attlist_merge.proofs.list.AttList.has_notation.Goals as goal
 
 pub returns-then-is_notation_at : goal.returns-then-is_notation_at

@@ -1,0 +1,158 @@
+-- What is read from the front of a text, with the rest of it; None where nothing of the form begins it.
+use Rattle.std.specs.Prelude.{◌≡◌, ℕ, zero, suc, ◌+◌, ◌||◌, ◌==◌, List, [], ◌∷◌, ◌++◌, length, take, drop, position, codes, bytes_eq, nat_eq, Option, Some, None, option_and_then, option_map, if◌then◌else◌, Result, Ok, Err}
+use Rattle.std.specs.List.{list_all, prefix_len, starts_with}
+use Rattle.jats_chars.specs.Classes.{is_space, is_name_char}
+use Rattle.jats_chars.specs.Names.{is_name, is_nmtoken}
+use Rattle.attribute_types.specs.declared.types.AttType.{AttType}
+use Rattle.attribute_types.specs.declared.types.AttType.TheVariants as kind
+use Rattle.attlist_merge.specs.declared.raw.RawPreset.{RawPreset}
+use Rattle.attlist_merge.specs.declared.raw.RawPreset.TheVariants as preset
+use Rattle.attlist_merge.specs.declared.raw.RawAtt.{RawAtt}
+use Rattle.attlist_merge.specs.declared.raw.RawAttList.{RawAttList}
+use Rattle.attlist_merge.specs.declared.parse.ListFault.{ListFault}
+use Rattle.attlist_merge.specs.declared.parse.ListFault.TheVariants as fault
+use Rattle.attlist_merge.specs.Grammar.{is_value}
+
+abbrev pub Read : Type 0 → Type 0
+Read X = Option (X × List ℕ)
+
+-- the text without the white space at its front
+unfoldable pub skipped : List ℕ → List ℕ
+skipped text = drop (prefix_len is_space text) text
+
+-- S: the rest
+abbrev pub read_space : List ℕ → Option (List ℕ)
+read_space [] = None
+read_space (c ∷ cs) = if is_space c then Some (skipped cs) else None
+
+-- the name characters at the front, and the rest
+unfoldable pub word : List ℕ → List ℕ
+word text = take (prefix_len is_name_char text) text
+
+unfoldable pub after_word : List ℕ → List ℕ
+after_word text = drop (prefix_len is_name_char text) text
+
+-- a Name
+abbrev pub read_name : List ℕ → Read (List ℕ)
+read_name text = if is_name (word text) then Some (word text, after_word text) else None
+
+-- behind a token in parentheses: `)` ends them, and `|` goes on
+unfoldable pub closes : (List (List ℕ) → List ℕ → Read (List (List ℕ))) → List (List ℕ) → List ℕ → Read (List (List ℕ))
+closes go done [] = None
+closes go done (c ∷ cs) = if c == 0x29 then Some (done, cs) else (if c == 0x7C then go done cs else None)
+
+-- the tokens behind `(`, at most this many, after those that were read
+unfoldable pub group : ℕ → List (List ℕ) → List ℕ → Read (List (List ℕ))
+group zero done text = None
+group (suc n) done text =
+    if is_nmtoken (word (skipped text)) then closes (group n) (done ++ word (skipped text) ∷ []) (skipped (after_word (skipped text))) else None
+
+-- Nmtokens parted by `|` in parentheses
+unfoldable pub read_group : List ℕ → Read (List (List ℕ))
+read_group [] = None
+read_group (c ∷ cs) = if c == 0x28 then group (length cs) [] cs else None
+
+-- the type that a keyword names alone
+unfoldable pub keyword : List ℕ → Option AttType
+keyword name =
+    if bytes_eq name (codes "CDATA") then Some kind.Cdata
+    else (if bytes_eq name (codes "ID") then Some kind.Id
+    else (if bytes_eq name (codes "IDREF") then Some kind.Idref
+    else (if bytes_eq name (codes "IDREFS") then Some kind.Idrefs
+    else (if bytes_eq name (codes "ENTITY") then Some kind.Entity
+    else (if bytes_eq name (codes "ENTITIES") then Some kind.Entities
+    else (if bytes_eq name (codes "NMTOKEN") then Some kind.Nmtoken
+    else (if bytes_eq name (codes "NMTOKENS") then Some kind.Nmtokens else None)))))))
+
+-- the tokens, where they are Names
+abbrev pub names_of : List (List ℕ) → Option (List (List ℕ))
+names_of tokens = if list_all is_name tokens then Some tokens else None
+
+abbrev pub as_notation : List (List ℕ) × List ℕ → Read AttType
+as_notation x = option_map (λ names. (kind.Notation names, x.1)) (names_of x.0)
+
+abbrev pub as_enumeration : List (List ℕ) × List ℕ → AttType × List ℕ
+as_enumeration x = (kind.Enumeration x.0, x.1)
+
+-- S and Names in parentheses
+unfoldable pub read_notation : List ℕ → Read AttType
+read_notation text = option_and_then as_notation (option_and_then read_group (read_space text))
+
+-- the type of a keyword, or that of NOTATION
+abbrev pub named_type : Option AttType → List ℕ → List ℕ → Read AttType
+named_type (Some kind) name rest = Some (kind, rest)
+named_type None name rest = if bytes_eq name (codes "NOTATION") then read_notation rest else None
+
+unfoldable pub read_type : List ℕ → Read AttType
+read_type text =
+    if starts_with nat_eq text (codes "(") then option_map as_enumeration (read_group text) else named_type (keyword (word text)) (word text) (after_word text)
+
+-- up to the first quote
+abbrev pub quoted : List ℕ → ℕ → Read (List ℕ)
+quoted text k = if is_value (take k text) then Some (take k text, drop (k + 1) text) else None
+
+unfoldable pub read_quoted : List ℕ → Read (List ℕ)
+read_quoted [] = None
+read_quoted (q ∷ cs) = if q == 0x22 || q == 0x27 then option_and_then (quoted cs) (position (λ c. c == q) cs) else None
+
+abbrev pub as_fixed : List ℕ × List ℕ → RawPreset × List ℕ
+as_fixed x = (preset.Fixed x.0, x.1)
+
+abbrev pub as_value : List ℕ × List ℕ → RawPreset × List ℕ
+as_value x = (preset.Value x.0, x.1)
+
+-- S and a fixed value
+abbrev pub read_fixed : List ℕ → Read RawPreset
+read_fixed text = option_map as_fixed (option_and_then read_quoted (read_space text))
+
+-- the preset of this word behind `#`
+abbrev pub named_preset : List ℕ → List ℕ → Read RawPreset
+named_preset name rest =
+    if bytes_eq name (codes "REQUIRED") then Some (preset.Required, rest)
+    else (if bytes_eq name (codes "IMPLIED") then Some (preset.Implied, rest)
+    else (if bytes_eq name (codes "FIXED") then read_fixed rest else None))
+
+unfoldable pub read_preset : List ℕ → Read RawPreset
+read_preset [] = None
+read_preset (c ∷ cs) = if c == 0x23 then named_preset (word cs) (after_word cs) else option_map as_value (read_quoted (c ∷ cs))
+
+-- S Name
+abbrev pub spaced_name : List ℕ → Read (List ℕ)
+spaced_name text = option_and_then read_name (read_space text)
+
+-- S type
+abbrev pub spaced_type : List ℕ → Read AttType
+spaced_type text = option_and_then read_type (read_space text)
+
+-- S preset
+abbrev pub spaced_preset : List ℕ → Read RawPreset
+spaced_preset text = option_and_then read_preset (read_space text)
+
+abbrev pub with_preset : List ℕ → AttType × List ℕ → Read RawAtt
+with_preset name x = option_map (λ y. (record { name = name; kind = x.0; preset = y.0 }, y.1)) (spaced_preset x.1)
+
+abbrev pub with_type : List ℕ × List ℕ → Read RawAtt
+with_type x = option_and_then (with_preset x.0) (spaced_type x.1)
+
+-- S Name S type S preset
+unfoldable pub read_definition : List ℕ → Read RawAtt
+read_definition text = option_and_then with_type (spaced_name text)
+
+-- the definitions of the text with white space behind, at most this many, after those that were read
+unfoldable pub definitions : ℕ → List RawAtt → List ℕ → Option (List RawAtt)
+definitions zero done text = if list_all is_space text then Some done else None
+definitions (suc n) done text =
+    if list_all is_space text then Some done else option_and_then (λ x. definitions n (done ++ x.0 ∷ []) x.1) (read_definition text)
+
+abbrev pub of_element : List ℕ × List ℕ → Option RawAttList
+of_element x = option_map (λ atts. record { element = x.0; atts = atts }) (definitions (length x.1) [] x.1)
+
+-- the declaration that a body writes
+unfoldable pub raw_list_of : List ℕ → Option RawAttList
+raw_list_of body = option_and_then of_element (spaced_name body)
+
+-- the answer for what a body writes
+abbrev pub Parses : Option RawAttList → Result RawAttList ListFault → Type 0
+Parses written (Ok raw) = written ≡ Some raw
+Parses written (Err fault.Malformed) = written ≡ None
+Parses written (Err fault.NoMemory) = Unit {0}

@@ -1,0 +1,427 @@
+//! The body of an attribute-list declaration.
+
+ghost use Rattle.std.specs.Prelude.{◌≡◌, [], ◌<◌, ◌≤◌, ◌+◌, length, map, option_map, IfOk, IfSome};
+ghost use Rattle.std.specs.List.{list_all, prefix_len};
+ghost use Rattle.std.specs.Option.{option_copied};
+ghost use Rattle.jats_chars.specs.Classes.{is_space as space, is_name_char as name_char};
+ghost use Rattle.jats_chars.specs.Names.{is_name as name};
+ghost use Rattle.attlist_merge.specs.Reading as spec;
+
+use crate::raw::{RawAtt, RawAttList, RawAtts, RawPreset};
+use crate::value::{first_place, is_value};
+use attribute_types::AttType;
+use jats_chars::{
+    Name, NameList, NoMemory, Text, TextList, is_name_char, is_nmtoken_slice, is_space,
+};
+use std::alloc::Global;
+use thiserror::Error;
+
+/// Why no declaration is given.
+#[derive(Debug, Drop, Error)]
+pub enum ListFault {
+    /// The body is not of the form of a declaration.
+    #[error("no attribute list")]
+    Malformed,
+    /// Memory ran out.
+    #[error("out of memory")]
+    NoMemory,
+}
+
+/// The number of characters at the front that are white space.
+fn spaces(text: &[char]) -> usize
+    ensures value { result ≡ prefix_len space text.now }
+    ensures within { result ≤ length text.now }
+{
+    text.iter().take_while(|c| is_space(**c)).count()
+}
+
+fn name_chars(text: &[char]) -> usize
+    ensures value { result ≡ prefix_len name_char text.now }
+    ensures within { result ≤ length text.now }
+{
+    text.iter().take_while(|c| is_name_char(**c)).count()
+}
+
+/// The text without the white space at its front.
+#[tactic(auto, unfolding(crate::specs::Reading::skipped))]
+fn skipped(text: &[char]) -> &[char]
+    ensures value { result.now ≡ spec.skipped text.now }
+    ensures within { length result.now ≤ length text.now }
+{
+    text.split_at(spaces(text)).1
+}
+
+/// The name characters at the front, and the rest.
+#[tactic(auto, unfolding(crate::specs::Reading::word, crate::specs::Reading::after_word))]
+fn word(text: &[char]) -> (&[char], &[char])
+    ensures word { result.0.now ≡ spec.word text.now }
+    ensures rest { result.1.now ≡ spec.after_word text.now }
+    ensures within { length result.0.now + length result.1.now ≡ length text.now }
+{
+    text.split_at(name_chars(text))
+}
+
+/// The rest behind some white space.
+fn read_space(text: &[char]) -> Option<&[char]>
+    ensures value { option_copied result ≡ spec.read_space text.now }
+    ensures within { IfSome result (λ r. length r.now < length text.now) }
+{
+    match text.split_first() {
+        Some((c, rest)) => {
+            if is_space(*c) {
+                Some(skipped(rest))
+            } else {
+                None
+            }
+        }
+        None => None,
+    }
+}
+
+/// A Name, and the rest.
+fn read_name(alloc: Global, text: &[char]) -> Result<Option<(Name, &[char])>, NoMemory>
+    ensures value { IfOk result (λ o. option_map (λ x. (x.0, x.1.now)) o ≡ spec.read_name text.now) }
+    ensures within { IfOk result (λ o. IfSome o (λ x. length x.1.now ≤ length text.now)) }
+{
+    let (word, rest) = word(text);
+    match Name::from_slice(alloc, word)? {
+        None => Ok(None),
+        Some(name) => Ok(Some((name, rest))),
+    }
+}
+
+/// Nmtokens parted by `|` in parentheses, and the rest.
+#[tactic(auto, unfolding(crate::specs::Reading::read_group))]
+fn read_group(alloc: Global, text: &[char]) -> Result<Option<(TextList, &[char])>, NoMemory>
+    ensures value { IfOk result (λ o. option_map (λ x. (x.0, x.1.now)) o ≡ spec.read_group text.now) }
+    ensures within { IfOk result (λ o. IfSome o (λ x. length x.1.now ≤ length text.now)) }
+{
+    match text.split_first() {
+        Some((c, rest)) => {
+            if *c == '(' {
+                read_tokens(alloc, rest)
+            } else {
+                Ok(None)
+            }
+        }
+        None => Ok(None),
+    }
+}
+
+/// Nmtokens parted by `|` up to `)`, and the rest.
+#[tactic(auto, using(crate::proofs::Tokens::tokens))]
+fn read_tokens(alloc: Global, text: &[char]) -> Result<Option<(TextList, &[char])>, NoMemory>
+    ensures value { IfOk result (λ o. option_map (λ x. (x.0, x.1.now)) o ≡ spec.group (length text.now) [] text.now) }
+    ensures within { IfOk result (λ o. IfSome o (λ x. length x.1.now ≤ length text.now)) }
+{
+    let mut tokens = TextList::new(alloc);
+    let mut rest = text;
+    loop {
+        let (token, after) = word(skipped(rest));
+        if !is_nmtoken_slice(token) {
+            return Ok(None);
+        }
+        tokens.push(Text::from_slice(alloc, token)?)?;
+        match skipped(after).split_first() {
+            None => return Ok(None),
+            Some((c, after)) => {
+                if *c == ')' {
+                    return Ok(Some((tokens, after)));
+                }
+                if *c != '|' {
+                    return Ok(None);
+                }
+                rest = after;
+            }
+        }
+    }
+}
+
+/// The tokens as names, or None where one is no Name.
+fn names_of(alloc: Global, tokens: &[Text]) -> Result<Option<NameList>, NoMemory>
+    ensures { IfOk result (λ o. o ≡ spec.names_of tokens.now) }
+{
+    let mut names = NameList::new(alloc);
+    for token in tokens {
+        match Name::from_text(alloc, token)? {
+            None => return Ok(None),
+            Some(name) => names.push(name)?,
+        }
+    }
+    Ok(Some(names))
+}
+
+/// The type that a keyword names alone.
+#[tactic(auto, unfolding(crate::specs::Reading::keyword))]
+fn keyword(name: &[char]) -> Option<AttType>
+    ensures { result ≡ spec.keyword name.now }
+{
+    if name == ['C', 'D', 'A', 'T', 'A'].as_slice() {
+        Some(AttType::Cdata)
+    } else if name == ['I', 'D'].as_slice() {
+        Some(AttType::Id)
+    } else if name == ['I', 'D', 'R', 'E', 'F'].as_slice() {
+        Some(AttType::Idref)
+    } else if name == ['I', 'D', 'R', 'E', 'F', 'S'].as_slice() {
+        Some(AttType::Idrefs)
+    } else if name == ['E', 'N', 'T', 'I', 'T', 'Y'].as_slice() {
+        Some(AttType::Entity)
+    } else if name == ['E', 'N', 'T', 'I', 'T', 'I', 'E', 'S'].as_slice() {
+        Some(AttType::Entities)
+    } else if name == ['N', 'M', 'T', 'O', 'K', 'E', 'N'].as_slice() {
+        Some(AttType::Nmtoken)
+    } else if name == ['N', 'M', 'T', 'O', 'K', 'E', 'N', 'S'].as_slice() {
+        Some(AttType::Nmtokens)
+    } else {
+        None
+    }
+}
+
+/// The type of notations behind its keyword, and the rest.
+#[tactic(auto, unfolding(crate::specs::Reading::read_notation))]
+fn read_notation(alloc: Global, text: &[char]) -> Result<Option<(AttType, &[char])>, NoMemory>
+    ensures value { IfOk result (λ o. option_map (λ x. (x.0, x.1.now)) o ≡ spec.read_notation text.now) }
+    ensures within { IfOk result (λ o. IfSome o (λ x. length x.1.now ≤ length text.now)) }
+{
+    match read_space(text) {
+        None => Ok(None),
+        Some(text) => match read_group(alloc, text)? {
+            None => Ok(None),
+            Some((tokens, rest)) => match names_of(alloc, tokens.as_slice())? {
+                None => Ok(None),
+                Some(names) => Ok(Some((AttType::Notation(names), rest))),
+            },
+        },
+    }
+}
+
+fn read_named_type(alloc: Global, text: &[char]) -> Result<Option<(AttType, &[char])>, NoMemory>
+    ensures value { IfOk result (λ o. option_map (λ x. (x.0, x.1.now)) o ≡ spec.named_type (spec.keyword (spec.word text.now)) (spec.word text.now) (spec.after_word text.now)) }
+    ensures within { IfOk result (λ o. IfSome o (λ x. length x.1.now ≤ length text.now)) }
+{
+    let (name, rest) = word(text);
+    match keyword(name) {
+        Some(kind) => Ok(Some((kind, rest))),
+        None => {
+            if name == ['N', 'O', 'T', 'A', 'T', 'I', 'O', 'N'].as_slice() {
+                read_notation(alloc, rest)
+            } else {
+                Ok(None)
+            }
+        }
+    }
+}
+
+/// A type, and the rest.
+#[tactic(auto, unfolding(crate::specs::Reading::read_type))]
+fn read_type(alloc: Global, text: &[char]) -> Result<Option<(AttType, &[char])>, NoMemory>
+    ensures value { IfOk result (λ o. option_map (λ x. (x.0, x.1.now)) o ≡ spec.read_type text.now) }
+    ensures within { IfOk result (λ o. IfSome o (λ x. length x.1.now ≤ length text.now)) }
+{
+    if text.starts_with(&['(']) {
+        match read_group(alloc, text)? {
+            None => Ok(None),
+            Some((tokens, rest)) => Ok(Some((AttType::Enumeration(tokens), rest))),
+        }
+    } else {
+        read_named_type(alloc, text)
+    }
+}
+
+/// What stands between quotes, and the rest behind them.
+#[tactic(auto, unfolding(crate::specs::Reading::read_quoted))]
+fn read_quoted(text: &[char]) -> Option<(&[char], &[char])>
+    ensures value { option_map (λ x. (x.0.now, x.1.now)) result ≡ spec.read_quoted text.now }
+    ensures within { IfSome result (λ x. length x.1.now ≤ length text.now) }
+{
+    match text.split_first() {
+        None => None,
+        Some((quote, rest)) => {
+            if *quote == '"' || *quote == '\'' {
+                match first_place(rest, *quote) {
+                    None => None,
+                    Some(k) => read_quoted_at(rest, k),
+                }
+            } else {
+                None
+            }
+        }
+    }
+}
+
+/// What stands in front of the quote at a place, and the rest behind it.
+fn read_quoted_at(text: &[char], k: usize) -> Option<(&[char], &[char])>
+    requires { k < length text.now }
+    ensures value { option_map (λ x. (x.0.now, x.1.now)) result ≡ spec.quoted text.now k }
+    ensures within { IfSome result (λ x. length x.1.now ≤ length text.now) }
+{
+    let (value, _) = text.split_at(k);
+    if is_value(value) {
+        Some((value, text.split_at(k + 1).1))
+    } else {
+        None
+    }
+}
+
+/// A fixed value behind its keyword, and the rest.
+fn read_fixed(alloc: Global, text: &[char]) -> Result<Option<(RawPreset, &[char])>, NoMemory>
+    ensures value { IfOk result (λ o. option_map (λ x. (x.0, x.1.now)) o ≡ spec.read_fixed text.now) }
+    ensures within { IfOk result (λ o. IfSome o (λ x. length x.1.now ≤ length text.now)) }
+{
+    match read_space(text) {
+        None => Ok(None),
+        Some(text) => match read_quoted(text) {
+            None => Ok(None),
+            Some((value, rest)) => Ok(Some((
+                RawPreset::Fixed(Text::from_slice(alloc, value)?),
+                rest,
+            ))),
+        },
+    }
+}
+
+/// A preset behind its `#`, and the rest.
+fn read_named_preset(alloc: Global, text: &[char]) -> Result<Option<(RawPreset, &[char])>, NoMemory>
+    ensures value { IfOk result (λ o. option_map (λ x. (x.0, x.1.now)) o ≡ spec.named_preset (spec.word text.now) (spec.after_word text.now)) }
+    ensures within { IfOk result (λ o. IfSome o (λ x. length x.1.now ≤ length text.now)) }
+{
+    let (name, rest) = word(text);
+    if name == ['R', 'E', 'Q', 'U', 'I', 'R', 'E', 'D'].as_slice() {
+        Ok(Some((RawPreset::Required, rest)))
+    } else if name == ['I', 'M', 'P', 'L', 'I', 'E', 'D'].as_slice() {
+        Ok(Some((RawPreset::Implied, rest)))
+    } else if name == ['F', 'I', 'X', 'E', 'D'].as_slice() {
+        read_fixed(alloc, rest)
+    } else {
+        Ok(None)
+    }
+}
+
+/// A preset, and the rest.
+#[tactic(auto, unfolding(crate::specs::Reading::read_preset))]
+fn read_preset(alloc: Global, text: &[char]) -> Result<Option<(RawPreset, &[char])>, NoMemory>
+    ensures value { IfOk result (λ o. option_map (λ x. (x.0, x.1.now)) o ≡ spec.read_preset text.now) }
+    ensures within { IfOk result (λ o. IfSome o (λ x. length x.1.now ≤ length text.now)) }
+{
+    match text.split_first() {
+        None => Ok(None),
+        Some((c, rest)) => {
+            if *c == '#' {
+                return read_named_preset(alloc, rest);
+            }
+            match read_quoted(text) {
+                None => Ok(None),
+                Some((value, rest)) => Ok(Some((
+                    RawPreset::Value(Text::from_slice(alloc, value)?),
+                    rest,
+                ))),
+            }
+        }
+    }
+}
+
+/// S and a type, and the rest.
+fn read_spaced_type(alloc: Global, text: &[char]) -> Result<Option<(AttType, &[char])>, NoMemory>
+    ensures value { IfOk result (λ o. option_map (λ x. (x.0, x.1.now)) o ≡ spec.spaced_type text.now) }
+    ensures within { IfOk result (λ o. IfSome o (λ x. length x.1.now ≤ length text.now)) }
+{
+    match read_space(text) {
+        None => Ok(None),
+        Some(text) => read_type(alloc, text),
+    }
+}
+
+/// S and a preset, and the rest.
+fn read_spaced_preset(
+    alloc: Global,
+    text: &[char],
+) -> Result<Option<(RawPreset, &[char])>, NoMemory>
+    ensures value { IfOk result (λ o. option_map (λ x. (x.0, x.1.now)) o ≡ spec.spaced_preset text.now) }
+    ensures within { IfOk result (λ o. IfSome o (λ x. length x.1.now ≤ length text.now)) }
+{
+    match read_space(text) {
+        None => Ok(None),
+        Some(text) => read_preset(alloc, text),
+    }
+}
+
+/// S and a Name, and the rest.
+fn read_spaced_name(alloc: Global, text: &[char]) -> Result<Option<(Name, &[char])>, NoMemory>
+    ensures value { IfOk result (λ o. option_map (λ x. (x.0, x.1.now)) o ≡ spec.spaced_name text.now) }
+    ensures within { IfOk result (λ o. IfSome o (λ x. length x.1.now < length text.now)) }
+{
+    match read_space(text) {
+        None => Ok(None),
+        Some(text) => read_name(alloc, text),
+    }
+}
+
+/// A definition, and the rest.
+#[tactic(auto, unfolding(crate::specs::Reading::read_definition))]
+fn read_definition(alloc: Global, text: &[char]) -> Result<Option<(RawAtt, &[char])>, NoMemory>
+    ensures value { IfOk result (λ o. option_map (λ x. (x.0, x.1.now)) o ≡ spec.read_definition text.now) }
+    ensures within { IfOk result (λ o. IfSome o (λ x. length x.1.now < length text.now)) }
+{
+    match read_spaced_name(alloc, text)? {
+        None => Ok(None),
+        Some((name, text)) => match read_spaced_type(alloc, text)? {
+            None => Ok(None),
+            Some((kind, text)) => match read_spaced_preset(alloc, text)? {
+                None => Ok(None),
+                Some((preset, rest)) => Ok(Some((RawAtt { name, kind, preset }, rest))),
+            },
+        },
+    }
+}
+
+fn is_blank(text: &[char]) -> bool
+    ensures { result ≡ list_all space text.now }
+{
+    text.iter().all(|c| is_space(*c))
+}
+
+/// All definitions of a text.
+#[tactic(auto, using(crate::proofs::Tokens::tokens))]
+fn read_definitions(alloc: Global, text: &[char]) -> Result<Option<RawAtts>, NoMemory>
+    ensures { IfOk result (λ o. o ≡ spec.definitions (length text.now) [] text.now) }
+{
+    let mut atts = RawAtts::new(alloc);
+    let mut rest = text;
+    while !is_blank(rest) {
+        match read_definition(alloc, rest)? {
+            None => return Ok(None),
+            Some((att, after)) => {
+                atts.push(att)?;
+                rest = after;
+            }
+        }
+    }
+    Ok(Some(atts))
+}
+
+#[tactic(auto, unfolding(crate::specs::Reading::raw_list_of))]
+fn read_body(alloc: Global, body: &[char]) -> Result<Option<RawAttList>, NoMemory>
+    ensures { IfOk result (λ o. o ≡ spec.raw_list_of body.now) }
+{
+    match read_spaced_name(alloc, body)? {
+        None => Ok(None),
+        Some((element, rest)) => match read_definitions(alloc, rest)? {
+            None => Ok(None),
+            Some(atts) => Ok(Some(RawAttList { element, atts })),
+        },
+    }
+}
+
+/// The declaration that a body writes, which is what stands in a declaration behind `<!ATTLIST` and before `>`, without
+/// references to parameter entities (XML 1.0, 3.3). Values are kept unread. It takes time linear in the body.
+///
+/// - Malformed exactly where the body is not of the form of a declaration.
+pub fn parse_attlist(alloc: Global, body: &Text) -> Result<RawAttList, ListFault>
+    ensures { spec.Parses (spec.raw_list_of body.now) result }
+{
+    match read_body(alloc, body.as_slice()) {
+        Ok(Some(raw)) => Ok(raw),
+        Ok(None) => Err(ListFault::Malformed),
+        Err(_) => Err(ListFault::NoMemory),
+    }
+}
