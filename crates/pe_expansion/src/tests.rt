@@ -180,3 +180,66 @@ fn ignored_contents_end(rt: HostRuntime) -> Result<(), Fail> {
     }
     Ok(())
 }
+
+/// Bindings in which `p1` refers to `p2` and so on, up to the last, whose text is `x`.
+fn chained(alloc: Global, last: usize) -> Result<Bindings, NoMemory> {
+    let mut bound = Bindings::new(alloc);
+    for k in 1..last {
+        let next = k.saturating_add(1);
+        let name = format!(in alloc; "p{k}")?;
+        let text = format!(in alloc; "%p{next};")?;
+        bind(alloc, &mut bound, name.as_str(), text.as_str())?;
+    }
+    let name = format!(in alloc; "p{last}")?;
+    bind(alloc, &mut bound, name.as_str(), "x")?;
+    Ok(bound)
+}
+
+#[test]
+fn thirty_two_names_may_be_open(rt: HostRuntime) -> Result<(), Fail> {
+    let chain = NameList::new(rt.alloc());
+    let first = Text::from_str(rt.alloc(), "%p1;")?;
+    for (last, word, want) in [(32usize, "ok", "x"), (33, "deep", "p33")] {
+        let bound = chained(rt.alloc(), last)?;
+        let want = Text::from_str(rt.alloc(), want)?;
+        let mut budget = Budget { spent: 0 };
+        let answer = literal(rt.alloc(), &bound, &chain, &first, &mut budget);
+        assert_eq!(rt; told(&answer), (word, want.as_slice()), "at {last}");
+    }
+    Ok(())
+}
+
+/// Binds the next name to what two references to the k-th stand for, or answers false where the budget is over.
+fn double(
+    alloc: Global,
+    bound: &mut Bindings,
+    k: usize,
+    budget: &mut Budget,
+) -> Result<bool, NoMemory> {
+    let value = format!(in alloc; "%a{k};%a{k};")?;
+    let value = Text::from_str(alloc, value.as_str())?;
+    let next = k.saturating_add(1);
+    let next = format!(in alloc; "a{next}")?;
+    let next = name(alloc, next.as_str())?;
+    let chain = NameList::new(alloc);
+    match literal(alloc, bound, &chain, &value, budget) {
+        Ok(text) => bound.bind(next, PeText::Inner(text)),
+        Err(PeFault::ExpansionOver(_)) => Ok(false),
+        Err(_) => Err(NoMemory),
+    }
+}
+
+#[test]
+fn doublings_spend_the_budget(rt: HostRuntime) -> Result<(), Fail> {
+    let mut bound = Bindings::new(rt.alloc());
+    bind(rt.alloc(), &mut bound, "a0", "0123456789abcdef")?;
+    let mut budget = Budget { spent: 0 };
+    for k in 0..21usize {
+        let done = double(rt.alloc(), &mut bound, k, &mut budget)?;
+        assert!(rt; done, "at {k}");
+    }
+    let done = double(rt.alloc(), &mut bound, 21, &mut budget)?;
+    assert!(rt; !done);
+    assert_eq!(rt; budget.spent, 67108832);
+    Ok(())
+}
