@@ -17,9 +17,6 @@ mod sound;
 mod space;
 mod top;
 
-pub use comparison::{BrokenDecl, Cause, Verdict, compare};
 pub use laws::{output_law, subset_law};
-pub use lines::Refusal;
-pub use read::{ReadFault, read_set};
 pub use sound::run_sound;
 pub use top::run;
