@@ -36,7 +36,7 @@ sound_found (x ∷ xs) name d all at =
     let Q : Bool → Type 0 = λ b. cond b (Some x.1) (definition_of xs name) ≡ Some d → IsSound (name, d) in
     let R : Definition → Type 0 = λ y. IsSound (name, y) in
     on_test Q (bytes_eq name x.0)
-    (λ e at. let same : x.1 ≡ d = cc in subst R same record { class = all.0.class; proper = all.0.proper; settled = all.0.settled; distinct = all.0.distinct; id = all.0.id; inside = all.0.inside })
+    (λ e at. let same : x.1 ≡ d = cc in subst R same record { tokens = all.0.tokens; class = all.0.class; proper = all.0.proper; settled = all.0.settled; distinct = all.0.distinct; id = all.0.id; inside = all.0.inside })
     (λ e at. sound_found xs name d all.1 at)
     at
 
@@ -84,7 +84,7 @@ none_pushed (x ∷ xs) e name h off =
     on_test Q (bytes_eq name x.0) (λ t h. h) (λ t h. none_pushed xs e name h off) h
 
 -- a name that is not in the list differs from each, and from those of the rest
-apart_first : (x : Entry) (xs : Definitions) (name : List ℕ) → definition_of (x ∷ xs) name ≡ None → (bytes_eq name x.0 ≡ false) × (definition_of xs name ≡ None)
+pub apart_first : (x : Entry) (xs : Definitions) (name : List ℕ) → definition_of (x ∷ xs) name ≡ None → (bytes_eq name x.0 ≡ false) × (definition_of xs name ≡ None)
 apart_first x xs name h =
     let Q : Bool → Type 0 = λ b. cond b (Some x.1) (definition_of xs name) ≡ None → (b ≡ false) × (definition_of xs name ≡ None) in
     on_test Q (bytes_eq name x.0) (λ t h. cc) (λ t h. (refl, h)) h
@@ -157,6 +157,7 @@ kept_pushed list att kept ready new none =
     let right = faultless list att.kind att.preset none in
     let e : Entry = (att.name, defined att) in
     let sound : IsSound e = record {
+      tokens = ready.tokens;
       class = refl;
       proper = proper_class att.kind att.preset ready.tokens ready.settled right.inside;
       settled = ready.settled;

@@ -1,9 +1,10 @@
 pub mod Turns
 pub mod Kept
+pub mod Copies
 pub mod Covering
 pub mod Showing
-pub mod Numerals
 pub mod Tokens
 pub mod Fronts
 pub mod Sound
 pub mod Complete
+pub mod Taken

@@ -6,7 +6,7 @@ use Rattle.std.specs.Option.{option_or, option_map_or}
 use Rattle.std.proofs.lemmas.Bool.{both_ways}
 use Rattle.attlist_merge.specs.Oddness.{first_some}
 
-one_more : (k : ℕ) → k + 1 ≡ suc k
+pub one_more : (k : ℕ) → k + 1 ≡ suc k
 one_more k = omega arith
 
 drop_suc : {X : Type 0} (xs : List X) (i : ℕ) (x : X) → slice_get xs i ≡ Some x → drop i xs ≡ x ∷ drop (suc i) xs

@@ -1,9 +1,9 @@
 -- How the body of an attribute-list declaration is written (XML 1.0, 3.3, productions 52 to 60), without references to parameter entities.
-use Rattle.std.specs.Prelude.{◌≡◌, ◌==◌, ◌+◌, ◌*◌, ◌-◌, ℕ, take, position, Bool, true, false, not, ◌&&◌, ◌||◌, nat_le, List, [], ◌∷◌, ◌++◌, codes, IsTrue, if◌then◌else◌}
-use Rattle.std.specs.List.{list_all, fold}
-use Rattle.std.specs.Option.{option_map_or}
-use Rattle.jats_chars.specs.Classes.{is_char, is_space}
+use Rattle.std.specs.Prelude.{◌≡◌, ◌==◌, ℕ, Bool, true, not, ◌&&◌, ◌||◌, List, [], ◌∷◌, ◌++◌, codes, IsTrue, if◌then◌else◌}
+use Rattle.std.specs.List.{list_all}
+use Rattle.jats_chars.specs.Classes.{is_space}
 use Rattle.jats_chars.specs.Names.{is_name, is_nmtoken}
+use Rattle.dtd_scanner.specs.References.{begins_reference}
 use Rattle.attribute_types.specs.Spacing.{is_filled}
 use Rattle.attribute_types.specs.declared.types.AttType.{AttType}
 use Rattle.attribute_types.specs.declared.types.AttType.TheVariants as kind
@@ -22,42 +22,10 @@ IsSpace text = IsTrue (is_filled text && list_all is_space text)
 
 -- ---- values
 
-abbrev pub is_digit : ℕ → Bool
-is_digit c = nat_le 0x30 c && nat_le c 0x39
-
-abbrev pub is_hex : ℕ → Bool
-is_hex c = is_digit c || (nat_le 0x41 c && nat_le c 0x46 || nat_le 0x61 c && nat_le c 0x66)
-
-abbrev pub digit : ℕ → ℕ
-digit c = if nat_le c 0x39 then c - 0x30 else (if nat_le c 0x46 then c - 0x37 else c - 0x57)
-
--- the number that digits write in a base
-abbrev pub number : ℕ → List ℕ → ℕ
-number base digits = fold (λ n c. base * n + digit c) 0 digits
-
--- digits that write the number of a Char
-abbrev pub names_char : ℕ → List ℕ → Bool
-names_char base digits = is_char (number base digits)
-
--- after `&#`: decimal digits, or `x` and hexadecimal ones
-abbrev pub is_number : List ℕ → Bool
-is_number [] = false
-is_number (c ∷ cs) =
-    if c == 0x78 then is_filled cs && (list_all is_hex cs && names_char 16 cs) else list_all is_digit (c ∷ cs) && names_char 10 (c ∷ cs)
-
--- what stands between `&` and `;`: a Name, or the number of a Char
-abbrev pub is_reference : List ℕ → Bool
-is_reference [] = false
-is_reference (c ∷ cs) = if c == 0x23 then is_number cs else is_name (c ∷ cs)
-
--- after `&`: in front of the first `;` stands a reference
-abbrev pub begins_reference : List ℕ → Bool
-begins_reference text = option_map_or (λ k. is_reference (take k text)) (position (λ c. c == 0x3B) text) false
-
 -- each `&` begins a reference
 unfoldable pub is_value : List ℕ → Bool
 is_value [] = true
-is_value (c ∷ cs) = (if c == 0x26 then begins_reference cs else true) && is_value cs
+is_value (c ∷ cs) = (if c == 0x26 then begins_reference (c ∷ cs) else true) && is_value cs
 
 -- the value between two quotes, without that quote inside
 pub record IsQuoted (text value : List ℕ) : Type 0 where

@@ -124,8 +124,9 @@ has_id list = list_any is_id_entry list
 abbrev pub has_notation : Definitions → Bool
 has_notation list = list_any is_notation_entry list
 
--- what each definition of a list keeps
+-- what each definition of a list keeps: the tokens of its type are Nmtokens, and at least one
 pub record IsSound (e : Entry) : Type 0 where
+  pub tokens : IsProper (class_of_type e.1.kind)
   pub class : e.1.class ≡ class_of e.1.kind e.1.preset
   pub proper : IsProper e.1.class
   pub settled : IsTrue (is_settled e.1.kind e.1.preset)

@@ -1,6 +1,6 @@
 //! Definitions of one element.
 
-ghost use Rattle.std.specs.Prelude.{◌≡◌, List, ℕ, [], ◌∷◌, ◌++◌, length, slice_get, option_map, bytes_eq, IfOk, IfSome, OnOk, OnErr, false, None};
+ghost use Rattle.std.specs.Prelude.{◌≡◌, ◌+◌, List, ℕ, [], ◌∷◌, ◌++◌, length, take, slice_get, option_map, bytes_eq, IfOk, IfSome, OnOk, OnErr, IsTrue, false, None};
 ghost use Rattle.std.specs.Map.{lookup};
 ghost use Rattle.std.specs.Option.{option_copied, option_map_or};
 
@@ -51,6 +51,19 @@ pub struct AttList {
     atts: IndexMap<Name, Definition>,
 }
 
+impl Definition {
+    /// A definition with the same type, preset and class.
+    pub fn copy(&self, alloc: Global) -> Result<Definition, NoMemory>
+        ensures { IfOk result (λ d. d ≡ self.now) }
+    {
+        Ok(Definition {
+            kind: self.kind.copy(alloc)?,
+            preset: self.preset.copy(alloc)?,
+            class: self.class.copy(alloc)?,
+        })
+    }
+}
+
 /// Puts a new name with its definition behind the others.
 fn put(
     atts: &mut IndexMap<Name, Definition>,
@@ -76,7 +89,7 @@ impl Model for AttList {
 }
 
 impl AttList {
-    ghost use Rattle.attlist_merge.specs.Lists.{definition_of, IsKept, IsSound};
+    ghost use Rattle.attlist_merge.specs.Lists.{definition_of, are_distinct, IsKept, IsSound};
     ghost use Rattle.attlist_merge.specs.Lists as spec;
     ghost use Rattle.attlist_merge.specs.Adding.{Adds, IsReady, Checks, second_fault, fault_of};
 
@@ -188,6 +201,34 @@ impl AttList {
         self.check_second(kind)
     }
 
+    /// Puts a copy of the attribute at a place behind copies of those before it.
+    fn put_copy(
+        &self,
+        alloc: Global,
+        atts: &mut IndexMap<Name, Definition>,
+        at: usize,
+    ) -> Result<(), NoMemory>
+        requires distinct { IsTrue (are_distinct self.now) }
+        requires before { atts.old.entries ≡ take at self.now }
+        ensures { OnOk result (atts.new.entries ≡ take (at + 1) self.now) }
+    {
+        match self.get(at) {
+            None => Ok(()),
+            Some((name, definition)) => put(atts, name.copy(alloc)?, definition.copy(alloc)?),
+        }
+    }
+
+    /// A list of the same attributes in the same order, made in time linear in the list.
+    pub fn copy(&self, alloc: Global) -> Result<AttList, NoMemory>
+        ensures { IfOk result (λ list. list ≡ self.now) }
+    {
+        let mut atts = IndexMap::new(alloc);
+        for at in 0..self.len() {
+            self.put_copy(alloc, &mut atts, at)?;
+        }
+        Ok(AttList { alloc, atts })
+    }
+
     fn push(&mut self, name: Name, definition: Definition) -> Result<(), NoMemory>
         requires new { definition_of self.old name ≡ None }
         requires kept { IsKept (self.old ++ (name, definition) ∷ []) }
@@ -195,6 +236,13 @@ impl AttList {
         ensures err { OnErr result (self.new ≡ self.old) }
     {
         put(&mut self.atts, name, definition)
+    }
+
+    /// Keeps the first `len` attributes, or all where there are no more. Takes no memory.
+    pub fn truncate(&mut self, len: usize)
+        ensures { self.new ≡ take len self.old }
+    {
+        self.atts.truncate(len);
     }
 
     /// Adds an attribute behind the others, unless its name is there. Answers false and changes nothing exactly where the

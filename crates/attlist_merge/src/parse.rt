@@ -44,7 +44,7 @@ fn name_chars(text: &[char]) -> usize
 
 /// The text without the white space at its front.
 #[tactic(auto, unfolding(crate::specs::Reading::skipped))]
-fn skipped(text: &[char]) -> &[char]
+pub fn skipped(text: &[char]) -> &[char]
     ensures value { result.now ≡ spec.skipped text.now }
     ensures within { length result.now ≤ length text.now }
 {
@@ -53,7 +53,7 @@ fn skipped(text: &[char]) -> &[char]
 
 /// The name characters at the front, and the rest.
 #[tactic(auto, unfolding(crate::specs::Reading::word, crate::specs::Reading::after_word))]
-fn word(text: &[char]) -> (&[char], &[char])
+pub fn word(text: &[char]) -> (&[char], &[char])
     ensures word { result.0.now ≡ spec.word text.now }
     ensures rest { result.1.now ≡ spec.after_word text.now }
     ensures within { length result.0.now + length result.1.now ≡ length text.now }
@@ -62,7 +62,7 @@ fn word(text: &[char]) -> (&[char], &[char])
 }
 
 /// The rest behind some white space.
-fn read_space(text: &[char]) -> Option<&[char]>
+pub fn read_space(text: &[char]) -> Option<&[char]>
     ensures value { option_copied result ≡ spec.read_space text.now }
     ensures within { IfSome result (λ r. length r.now < length text.now) }
 {
@@ -79,7 +79,7 @@ fn read_space(text: &[char]) -> Option<&[char]>
 }
 
 /// A Name, and the rest.
-fn read_name(alloc: Global, text: &[char]) -> Result<Option<(Name, &[char])>, NoMemory>
+pub fn read_name(alloc: Global, text: &[char]) -> Result<Option<(Name, &[char])>, NoMemory>
     ensures value { IfOk result (λ o. option_map (λ x. (x.0, x.1.now)) o ≡ spec.read_name text.now) }
     ensures within { IfOk result (λ o. IfSome o (λ x. length x.1.now ≤ length text.now)) }
 {

@@ -6,7 +6,7 @@ use jats_chars::{Name, NoMemory, Text};
 use std::alloc::Global;
 use std::test::Fail;
 
-fn keyword_of(kind: &AttType) -> &'static str {
+pub fn keyword_of(kind: &AttType) -> &'static str {
     match kind {
         AttType::Cdata => "CDATA",
         AttType::Id => "ID",
@@ -21,7 +21,7 @@ fn keyword_of(kind: &AttType) -> &'static str {
     }
 }
 
-fn push_str(alloc: Global, out: &mut Text, part: &str) -> Result<(), NoMemory> {
+pub fn push_str(alloc: Global, out: &mut Text, part: &str) -> Result<(), NoMemory> {
     out.push_slice(Text::from_str(alloc, part)?.as_slice())
 }
 

@@ -92,7 +92,7 @@ not_deep t (Children q) s p d =
     let l : depth q ≤ 64 = leb-true (depth q) 64 (and-left (nat_le (depth q) 64) _ k) in
     omega (arith, depth_of t q s.1)
 
-few : (c : Content) → IsProper c → (occurrences c ≤ 1024) × (repeated_in c ≡ None)
+pub few : (c : Content) → IsProper c → (occurrences c ≤ 1024) × (repeated_in c ≡ None)
 unfolding is_proper
 few Empty p = (omega arith, refl)
 few Any p = (omega arith, refl)
@@ -141,7 +141,7 @@ unfolding judged
 few_judged c o l e =
     ap (λ b. if b then Err fault.PositionsOver else named_fault c (repeated_in c)) (le-ltb 1024 (occurrences c) l) ∙ ap (named_fault c) e
 
-nothing_read : (t : Chars) → ((c : Content) → Spells t c → ⊥) → (o : Option Content) → content_of t ≡ o → o ≡ None
+pub nothing_read : (t : Chars) → ((c : Content) → Spells t c → ⊥) → (o : Option Content) → content_of t ≡ o → o ≡ None
 nothing_read t none None e = refl
 nothing_read t none (Some c) e = absurd (none c (content_sound t c e))
 

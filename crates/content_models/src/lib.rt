@@ -27,5 +27,5 @@ mod tests;
 
 pub use content::{Content, Occurs, Particle, ParticleList, TextKind, text_kind};
 pub use laws::{derivation_law, parse_law, print_law};
-pub use parsing::{ContentFault, parse_content};
+pub use parsing::{ContentFault, is_too_deep, parse_content};
 pub use printing::print_content;

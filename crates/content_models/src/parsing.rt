@@ -39,9 +39,10 @@ const DEPTH: usize = 64;
 /// How many names may occur.
 const POSITIONS: usize = 1024;
 
-/// Whether some front of the text has more open parentheses than groups may stand inside one another.
+/// Whether some front of the text has more than 64 open parentheses, where a `)` closes the last one that is open, and none
+/// where none is.
 #[tactic(auto, using(crate::proofs::Depths::depths))]
-fn is_too_deep(text: &[char]) -> bool
+pub fn is_too_deep(text: &[char]) -> bool
     ensures { result ≡ nat_lt 64 (most_open 0 text.now) }
 {
     let mut open = 0;

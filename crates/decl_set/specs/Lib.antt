@@ -1,5 +1,14 @@
-pub mod Breaks
 pub mod Declarations
-pub mod Declares
 pub mod DeclaredBy
+pub mod Inside
+pub mod Values
+pub mod ValueFrames
+pub mod ValueEscaped
+pub mod Declaring
+pub mod Asked
+pub mod Outcomes
+pub mod Steps
 pub mod Validity
+pub mod Breaks
+pub mod AttributeSteps
+pub mod Judgements

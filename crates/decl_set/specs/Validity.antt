@@ -1,12 +1,14 @@
 -- When a document meets a set of declarations (XML 1.0, 3, Element Valid; structure alone).
-use Rattle.std.specs.Prelude.{◌≡◌, ℕ, List, [], Option, Some, None, IsTrue}
+use Rattle.std.specs.Prelude.{◌≡◌, ℕ, List, Option, Some, None, IsTrue}
 use Rattle.content_models.specs.declared.content.Content.{Content}
 use Rattle.content_models.specs.declared.content.TextKind.{TextKind}
 use Rattle.content_models.specs.declared.content.TextKind.TheVariants.{NoItems, White, All}
 use Rattle.content_models.specs.Model.{Derives}
 use Rattle.content_models.specs.Kinds.{text_kind}
 use Rattle.document_trees.specs.Trees.{Attribute, Items, Node, IsDocument, EachNode, child_names, elements_alone, runs_plain, stands_in}
-use Rattle.decl_set.specs.Declarations.{Declarations, content_in}
+use Rattle.attlist_merge.specs.Lists.{Definitions}
+use Rattle.attlist_merge.specs.Values.{is_right}
+use Rattle.decl_set.specs.Declarations.{Declarations, content_in, attributes_in}
 
 -- the items other than elements are allowed: none, plain runs with comments and processing instructions, or all
 abbrev pub TextAllowed : TextKind → Items → Type 0
@@ -14,15 +16,15 @@ TextAllowed NoItems items = IsTrue (elements_alone items)
 TextAllowed White items = IsTrue (runs_plain items)
 TextAllowed All items = Unit {0}
 
--- These items and attributes meet the content, where it is declared: the child names are derived, the other items are
--- allowed, and each attribute is declared. No set declares attributes yet.
-abbrev pub MeetsContent : Option Content → List Attribute → Items → Type 0
-MeetsContent None atts items = ⊥
-MeetsContent (Some content) atts items = Derives content (child_names items) × TextAllowed (text_kind content) items × (atts ≡ [])
+-- These items and attributes meet the content and the list, where the element is declared: the child names are derived, the
+-- other items are allowed, each attribute is declared and in its class, and each required one is there.
+abbrev pub MeetsContent : Option Content → Definitions → List Attribute → Items → Type 0
+MeetsContent None list atts items = ⊥
+MeetsContent (Some content) list atts items = Derives content (child_names items) × TextAllowed (text_kind content) items × IsTrue (is_right list atts)
 
 -- the node meets its declaration
 abbrev pub Meets : Declarations → List ℕ → List Attribute → Items → Type 0
-Meets set name atts items = MeetsContent (content_in set name) atts items
+Meets set name atts items = MeetsContent (content_in set name) (attributes_in set name) atts items
 
 -- the top node has this name, and every node meets the set
 abbrev pub IsValid : Declarations → List ℕ → Node → Type 0

@@ -1,8 +1,9 @@
 -- First items of texts.
-use Rattle.std.proofs.Common.{◌≡◌, [], ◌∷◌, Ok, Err, refl}
+use Rattle.std.proofs.Common.{◌≡◌, [], ◌∷◌, Some, None, true, false, Ok, Err, refl}
 use Rattle.std.specs.Prelude.{codes}
-use Rattle.jats_chars.specs.Classes.{is_space, is_name_start, is_name_char}
+use Rattle.jats_chars.specs.Classes.{is_char, is_space, is_name_start, is_name_char}
 use Rattle.dtd_scanner.specs.Scanning.{first_item}
+use Rattle.dtd_scanner.specs.References.{char_reference, begins_reference}
 use Rattle.dtd_scanner.specs.ItemLists.{items_of}
 use Rattle.dtd_scanner.specs.Walk.{over}
 use Rattle.dtd_scanner.specs.declared.item.ItemKind.TheVariants.{Blank, Comment, Pi, Reference, SectionStart, ElementDecl, EntityDecl}
@@ -60,3 +61,27 @@ module_items = refl
 no_items : items_of (codes " %b") ≡ Err Unclosed
 unfolding over first_item is_space is_name_start is_name_char
 no_items = refl
+
+-- XML 1.0, 4.1: references to characters, and to general entities
+less : char_reference (codes "&#60;") ≡ Some (60, 5)
+unfolding is_char
+less = refl
+
+copyright : char_reference (codes "&#xA9; 1947") ≡ Some (169, 6)
+unfolding is_char
+copyright = refl
+
+no_char : char_reference (codes "&#0;") ≡ None
+unfolding is_char
+no_char = refl
+
+capital : char_reference (codes "&#X41;") ≡ None
+capital = refl
+
+general : begins_reference (codes "&rights;.") ≡ true
+unfolding is_char is_name_start is_name_char
+general = refl
+
+bare : begins_reference (codes "&rights ") ≡ false
+unfolding is_char is_name_start is_name_char
+bare = refl

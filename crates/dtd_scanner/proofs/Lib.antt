@@ -9,4 +9,6 @@ pub mod Agreement
 pub mod Walking
 pub mod Listing
 pub mod Holding
+pub mod Numerals
+pub mod ReferenceNames
 mod Examples

@@ -3,3 +3,4 @@ pub mod Scanning
 pub mod Parts
 pub mod ItemLists
 pub mod Walk
+pub mod References

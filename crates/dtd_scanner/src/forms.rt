@@ -7,7 +7,8 @@ ghost use Rattle.jats_chars.specs.Classes as chars;
 ghost use Rattle.dtd_scanner.specs.Items as items;
 ghost use Rattle.dtd_scanner.specs.Scanning as spec;
 
-use jats_chars::{is_name_char, is_name_start, is_space};
+use crate::references::{name_len, quote_after};
+use jats_chars::is_space;
 
 /// Whether the text begins with white space.
 pub(crate) fn first_is_space(text: &[char]) -> bool
@@ -25,31 +26,6 @@ pub(crate) fn blank_len(text: &[char]) -> usize
     ensures within { result ≤ length text.now }
 {
     text.iter().take_while(|c| is_space(**c)).count()
-}
-
-/// How many characters that may stand in a Name the text begins with.
-fn name_chars(text: &[char]) -> usize
-    ensures value { result ≡ prefix_len chars.is_name_char text.now }
-    ensures within { result ≤ length text.now }
-{
-    text.iter().take_while(|c| is_name_char(**c)).count()
-}
-
-/// The length of the Name that the text begins with, or 0.
-fn name_len(text: &[char]) -> usize
-    ensures value { result ≡ spec.name_len text.now }
-    ensures within { result ≤ length text.now }
-{
-    match text.split_first() {
-        None => 0,
-        Some((c, _)) => {
-            if is_name_start(*c) {
-                name_chars(text)
-            } else {
-                0
-            }
-        }
-    }
 }
 
 /// Whether the first character stands before the place, and the second at it.
@@ -131,21 +107,6 @@ pub(crate) fn pi_len(text: &[char]) -> Option<usize>
     }
 }
 
-pub(crate) fn reference_len(text: &[char]) -> Option<usize>
-    requires { 1 ≤ length text.now }
-    ensures value { result ≡ spec.reference_len text.now }
-    ensures within { IfSome result (λ n. n ≤ length text.now) }
-{
-    let (_, rest) = text.split_at(1);
-    let length = name_len(rest);
-    let (_, end) = rest.split_at(length);
-    if 0 < length && end.starts_with(&[';']) {
-        Some(length + 2)
-    } else {
-        None
-    }
-}
-
 /// Where the first `[` stands.
 fn first_bracket(text: &[char]) -> Option<usize>
     ensures value { result ≡ position (λ c. c == 91) text.now }
@@ -163,22 +124,6 @@ pub(crate) fn section_start_len(text: &[char]) -> Option<usize>
     match first_bracket(rest) {
         None => None,
         Some(at) => Some(at + 4),
-    }
-}
-
-fn is_quote(c: char) -> bool
-    ensures { result ≡ items.is_quote c }
-{
-    c == '"' || c == '\''
-}
-
-/// The quote that is open behind a character.
-fn quote_after(quote: Option<char>, c: char) -> Option<char>
-    ensures { result ≡ spec.quote_after quote c }
-{
-    match quote {
-        None => { if is_quote(c) { Some(c) } else { None } }
-        Some(quote) => { if c == quote { None } else { Some(quote) } }
     }
 }
 

@@ -5,9 +5,9 @@ ghost use Rattle.dtd_scanner.specs.Items.{Scans, shortest};
 ghost use Rattle.dtd_scanner.specs.Scanning as spec;
 
 use crate::forms::{
-    blank_len, comment_len, declaration_len, first_is_space, pi_len, reference_len,
-    section_start_len,
+    blank_len, comment_len, declaration_len, first_is_space, pi_len, section_start_len,
 };
+use crate::references::reference_len;
 use crate::{Item, ItemKind, ScanFault};
 use jats_chars::Text;
 

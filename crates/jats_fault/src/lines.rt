@@ -1,8 +1,7 @@
 //! The lines of refusals.
 
-ghost use Rattle.std.specs.Prelude.{◌≡◌, ◌++◌, IfOk, OnOk, IsSome, string_bytes, encode_utf8_all};
+ghost use Rattle.std.specs.Prelude.{◌≡◌, ◌++◌, IfOk, OnOk, string_bytes, encode_utf8_all};
 ghost use Rattle.jats_fault.specs.Lines as spec;
-ghost use Rattle.jats_fault.specs.Table.{name_of};
 
 use crate::{Fault, fault_name};
 use jats_chars::{NoMemory, Text};
@@ -28,14 +27,13 @@ fn add_details(alloc: Global, line: &mut String, details: &[Text]) -> Result<(),
     Ok(())
 }
 
-/// The line of a refusal whose number is in the table: `refused E`, the number, the name, the module, the offset and
-/// each detail, parted by spaces, in UTF-8. It ends with LF.
+/// The line of a refusal: `refused E`, the number, the name, the module, the offset and each detail, parted by spaces, in
+/// UTF-8. It ends with LF. A number that is not in the table has an empty name.
 pub fn line(alloc: Global, fault: &Fault) -> Result<Vec<u8>, NoMemory>
-    requires { IsSome (name_of fault.now.number) }
     ensures { IfOk result (λ bytes. bytes.items ≡ spec.line_of fault.now) }
 {
     let number = fault.number;
-    let name = fault_name(number).unwrap();
+    let name = fault_name(number).unwrap_or("");
     let module = shown(alloc, &fault.place.module)?;
     let offset = fault.place.offset;
     let mut line = format!(in alloc; "refused E{number} {name} {module} {offset}")?;

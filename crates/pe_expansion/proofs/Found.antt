@@ -1,6 +1,8 @@
 -- Names that are found.
-use Rattle.std.proofs.Common.{◌≡◌, ℕ, List, [], ◌∷◌, Bool, true, false, cond, Option, Some, None, IfSome, option_map, unwrap_or, refl, sym, ap, bytes_eq}
-use Rattle.std.specs.Map.{lookup, lookup_key, set_value}
+use Rattle.std.proofs.Common.{◌≡◌, ℕ, List, [], ◌∷◌, Bool, true, false, cond, Option, Some, None, IfSome, option_map, unwrap_or, refl, sym, ap, bytes_eq, ◌+◌, not, position, length}
+use Rattle.std.specs.Map.{keys_of, lookup, lookup_key, set_value}
+use Rattle.std.specs.List.{prefix_len}
+use Rattle.std.proofs.lemmas.Map.Entries.{length-keys_of}
 use Rattle.std.proofs.lemmas.Map.Made.{lookup_key_same}
 use Rattle.std.proofs.lemmas.Slice.Eq.{bytes_eq-Decides}
 use Rattle.pe_expansion.specs.declared.bindings.PeText.{PeText}
@@ -20,3 +22,11 @@ written_outer (b ∷ bs) name text v is = by (bytes_eq name b.0) is (written_out
         → cond same ((b.0, given_text text v) ∷ bs) (b ∷ set_value (bytes_eq name) bs (given_text text v)) ≡ cond same ((b.0, given_text text b.1) ∷ bs) (b ∷ with_outer bs name text)
     by true here later = let same : b.1 ≡ v = ap (λ o. unwrap_or o v) here in rw same refl
     by false there later = ap (λ rest. b ∷ rest) (later there)
+
+prefix_keys : {X : Type 0} (test : List ℕ → Bool) (es : List (List ℕ × X)) → prefix_len test (keys_of es) ≡ prefix_len (λ (e : List ℕ × X). test e.0) es
+prefix_keys test [] = refl
+prefix_keys test (e ∷ es) = ap (λ n. cond (test e.0) (1 + n) 0) (prefix_keys test es)
+
+-- the place of a name among the keys
+pub position_keys : {X : Type 0} (test : List ℕ → Bool) (es : List (List ℕ × X)) → position test (keys_of es) ≡ position (λ (e : List ℕ × X). test e.0) es
+position_keys test es = rw (prefix_keys (λ k. not (test k)) es, length-keys_of es) refl

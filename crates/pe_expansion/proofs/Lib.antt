@@ -1,9 +1,10 @@
 pub mod Found
 pub mod Nesting
+pub mod Judging
+pub mod Runs
 pub mod Works
 pub mod OpenNames
 pub mod Waiting
-pub mod References
-pub mod Numerals
 pub mod Sections
+pub mod Spending
 mod Examples

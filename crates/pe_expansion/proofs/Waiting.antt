@@ -3,10 +3,11 @@ use Rattle.std.proofs.Common.{◌≡◌, ◌∙◌, ℕ, suc, ◌+◌, ◌-◌, 
 use Rattle.std.proofs.lemmas.List.{append-nil, map_push}
 use Rattle.dtd_scanner.specs.Walk.{◌>>=◌}
 use Rattle.dtd_scanner.proofs.Walking.{bind_cong, bind_assoc, bind_ok, over_end, over_at}
+use Rattle.dtd_scanner.specs.References.{named}
 use Rattle.pe_expansion.specs.Bound.{Bound}
 use Rattle.pe_expansion.specs.Opening.{opening}
 use Rattle.pe_expansion.specs.Pieces.{first_piece}
-use Rattle.pe_expansion.specs.Expansion.{Written, closed, padded, expansion, by_kind, named}
+use Rattle.pe_expansion.specs.Expansion.{Written, closed, padded, expansion, by_kind}
 use Rattle.pe_expansion.specs.Frames.{open_names, step, from, goes_on, resumed, left, waiting}
 use Rattle.pe_expansion.specs.declared.pieces.Manner.{Manner}
 use Rattle.pe_expansion.specs.declared.pieces.Piece.{Piece}

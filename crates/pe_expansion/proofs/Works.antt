@@ -4,10 +4,11 @@ use Rattle.std.specs.Prelude.{Result, take, Bool, true, false, cond}
 use Rattle.std.specs.Bool.{OnTrue, OnFalse}
 use Rattle.std.proofs.lemmas.List.{append-nil}
 use Rattle.dtd_scanner.proofs.Walking.{bind_ok}
+use Rattle.dtd_scanner.specs.References.{named}
 use Rattle.pe_expansion.specs.Bound.{Bound}
 use Rattle.pe_expansion.specs.Pieces.{first_piece}
 use Rattle.pe_expansion.specs.Opening.{opening}
-use Rattle.pe_expansion.specs.Expansion.{Written, with, named, padded, closed, expansion_of}
+use Rattle.pe_expansion.specs.Expansion.{Written, with, padded, closed, expansion_of}
 use Rattle.pe_expansion.specs.Outcomes.{Fails}
 use Rattle.pe_expansion.specs.Frames.{open_names, from, left, left_of, size_of, waiting, GoesOn}
 use Rattle.pe_expansion.specs.declared.pieces.Manner.{Manner}

@@ -3,6 +3,7 @@
 use Rattle.std.specs.Prelude.{ℕ, zero, suc, ◌-◌, List, [], ◌∷◌, ◌++◌, take, drop, length, Option, Some, None, Result, Ok, Err, Bool, false, ◌==◌, ◌||◌, ◌&&◌, if◌then◌else◌}
 use Rattle.std.specs.Option.{is_none}
 use Rattle.dtd_scanner.specs.Scanning.{quote_after}
+use Rattle.dtd_scanner.specs.References.{named}
 use Rattle.dtd_scanner.specs.Walk.{◌>>=◌, over}
 use Rattle.pe_expansion.specs.declared.pieces.Kind.{Kind}
 use Rattle.pe_expansion.specs.declared.pieces.Kind.TheVariants.{Char, Kept, Included}
@@ -48,10 +49,6 @@ included manner deeper bound names w name =
     opening bound names w.spent name
     >>= λ t. deeper (names ++ name ∷ []) (record { text = padded manner w.text; spent = t.1 }) t.0
     >>= closed manner name (length (padded manner w.text))
-
--- the name in a reference of this length
-abbrev pub named : ℕ → List ℕ → List ℕ
-named len text = take (len - 2) (drop 1 text)
 
 -- a piece of this kind and length, with which the text begins
 abbrev pub by_kind : Manner → Expanding → Bound → List (List ℕ) → Written → List ℕ → ℕ → Kind → Result Written PeFault

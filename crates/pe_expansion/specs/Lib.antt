@@ -6,4 +6,6 @@ pub mod Pieces
 pub mod Opening
 pub mod Expansion
 pub mod Outcomes
+pub mod Opens
 pub mod Frames
+pub mod Nesting

@@ -1,6 +1,6 @@
 //! What parameter entities are bound to.
 
-ghost use Rattle.std.specs.Prelude.{◌≡◌, [], option_map, IfSome};
+ghost use Rattle.std.specs.Prelude.{◌≡◌, [], option_map, IfSome, Some, position, bytes_eq, slice_get, length};
 ghost use Rattle.std.specs.Option.{option_copied};
 ghost use Rattle.pe_expansion.specs.Bound.{IsOuter, given_text, with_outer, text_bound, none_bound};
 ghost use Rattle.pe_expansion.specs.Binds.{Binds};
@@ -109,6 +109,37 @@ impl Bindings {
         ensures text { option_map (λ p. p.1.now) result ≡ text_bound self.now name.now }
     {
         self.entries.get_key_value(Spelled { name })
+    }
+
+    /// The same, with the place of the name in order of binding, counted from 0.
+    pub(crate) fn numbered(&self, name: &[char]) -> Option<(usize, &Name, &PeText)>
+        ensures name { IfSome result (λ p. p.1.now ≡ name.now) }
+        ensures text { option_map (λ p. p.2.now) result ≡ text_bound self.now name.now }
+        ensures entry { IfSome result (λ p. slice_get self.now p.0 ≡ Some (p.1.now, p.2.now)) }
+    {
+        self.entries.get_full(Spelled { name })
+    }
+
+    /// How many entities are bound.
+    pub fn len(&self) -> usize
+        ensures { result ≡ length self.now }
+    {
+        self.entries.len()
+    }
+
+    /// The place of a name in order of binding, counted from 0, or None exactly where it is not bound. Places stay.
+    pub fn number_of(&self, name: &[char]) -> Option<usize>
+        ensures { result ≡ position (λ e. bytes_eq name.now e.0) self.now }
+    {
+        self.entries.get_index_of(Spelled { name })
+    }
+
+    /// The name that is bound at a place counted from 0, and what it is bound to, or None exactly where the place is the
+    /// length or more.
+    pub fn entity_at(&self, number: usize) -> Option<(&Name, &PeText)>
+        ensures { option_map (λ p. (p.0.now, p.1.now)) result ≡ slice_get self.now number }
+    {
+        self.entries.get_index(number)
     }
 
     /// Gives an outer entity its text. Nothing else changes, and no memory is taken.

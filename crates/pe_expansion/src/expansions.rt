@@ -1,5 +1,6 @@
 //! What entity values and bodies of declarations stand for.
 
+ghost use Rattle.std.specs.Prelude.{◌≤◌};
 ghost use Rattle.pe_expansion.specs.Expansion as spec;
 ghost use Rattle.pe_expansion.specs.Outcomes.{Expands};
 
@@ -24,7 +25,22 @@ pub fn literal(
     quoted: &Text,
     budget: &mut Budget,
 ) -> Result<Text, PeFault>
-    ensures { Expands (spec.literal_of bound.now chain.now budget.old.spent quoted.now) budget.old.spent budget.new.spent result }
+    ensures gives { Expands (spec.literal_of bound.now chain.now budget.old.spent quoted.now) budget.old.spent budget.new.spent result }
+    ensures rises { budget.old.spent ≤ budget.new.spent }
+{
+    literal_in(alloc, bound, chain, quoted.as_slice(), budget)
+}
+
+/// The same for characters that are lent.
+pub fn literal_in(
+    alloc: Global,
+    bound: &Bindings,
+    chain: &NameList,
+    quoted: &[char],
+    budget: &mut Budget,
+) -> Result<Text, PeFault>
+    ensures gives { Expands (spec.literal_of bound.now chain.now budget.old.spent quoted.now) budget.old.spent budget.new.spent result }
+    ensures rises { budget.old.spent ≤ budget.new.spent }
 {
     expanded(alloc, Manner::Literal, bound, chain, quoted, budget)
 }
@@ -43,7 +59,22 @@ pub fn plain_body(
     body: &Text,
     budget: &mut Budget,
 ) -> Result<Text, PeFault>
-    ensures { Expands (spec.plain_body_of bound.now chain.now budget.old.spent body.now) budget.old.spent budget.new.spent result }
+    ensures gives { Expands (spec.plain_body_of bound.now chain.now budget.old.spent body.now) budget.old.spent budget.new.spent result }
+    ensures rises { budget.old.spent ≤ budget.new.spent }
+{
+    plain_body_in(alloc, bound, chain, body.as_slice(), budget)
+}
+
+/// The same for characters that are lent.
+pub fn plain_body_in(
+    alloc: Global,
+    bound: &Bindings,
+    chain: &NameList,
+    body: &[char],
+    budget: &mut Budget,
+) -> Result<Text, PeFault>
+    ensures gives { Expands (spec.plain_body_of bound.now chain.now budget.old.spent body.now) budget.old.spent budget.new.spent result }
+    ensures rises { budget.old.spent ≤ budget.new.spent }
 {
     expanded(alloc, Manner::Body, bound, chain, body, budget)
 }

@@ -8,7 +8,8 @@
 //! a reference is expanded in its place, one level deeper, with its name open. `specs/Opening.antt` says when a name may
 //! open, and `specs/Pieces.antt` what a text begins with. The answer is the whole text with the count of characters that
 //! were included, or the first thing that stops the expansion. The code writes into one text, and texts that wait stand on
-//! a stack (`specs/Frames.antt`); no text is copied to be read.
+//! a stack (`specs/Frames.antt`); no text is copied to be read. Of each open text one flag says whether what is written of it
+//! breaks nesting so far (`specs/Nesting.antt`), so that what is written is never read again.
 //!
 //! `ignored_end` finds the end of an ignored section (`specs/Ignored.antt`).
 #![tactic(auto)]
@@ -17,15 +18,17 @@ mod bindings;
 mod expansions;
 mod faults;
 mod ignored;
+mod openings;
 mod pieces;
 mod stack;
 #[cfg(test)]
 mod tests;
 
 pub use bindings::{Bindings, PeText};
-pub use expansions::{literal, plain_body};
+pub use expansions::{literal, literal_in, plain_body, plain_body_in};
 pub use faults::PeFault;
 pub use ignored::ignored_end;
+pub use openings::{Opened, opening};
 
 /// How many characters were included in one set or article: at most 67,108,864.
 #[derive(Clone, Copy, Debug, PartialEq, Eq)]

@@ -1,16 +1,16 @@
 //! The pieces of a text that is expanded.
 
-ghost use Rattle.std.specs.Prelude.{◌≡◌, ◌≢◌, ◌==◌, ◌&&◌, ◌*◌, ◌+◌, ◌-◌, ◌<◌, ◌≤◌, IfSome, IsTrue, position, length, take, drop, min};
+ghost use Rattle.std.specs.Prelude.{◌≡◌, ◌≢◌, ◌==◌, ◌+◌, ◌<◌, ◌≤◌, IfSome, IsTrue, position, length, option_map};
 ghost use Rattle.std.specs.List.{prefix_len};
 ghost use Rattle.jats_chars.specs.Classes as chars;
 ghost use Rattle.jats_chars.specs.Names.{is_name as is_name_list};
 ghost use Rattle.dtd_scanner.specs.Items as items;
-ghost use Rattle.dtd_scanner.specs.Scanning as scanning;
+ghost use Rattle.dtd_scanner.specs.References.{char_reference, named};
 ghost use Rattle.pe_expansion.specs.Pieces as spec;
-ghost use Rattle.pe_expansion.specs.Expansion.{named};
 ghost use Rattle.pe_expansion.specs.declared.pieces.Kind.TheVariants.{Included};
 
-use jats_chars::{is_char, is_name_char, is_name_start};
+use dtd_scanner::{char_reference, is_quote, reference_len};
+use jats_chars::is_name_start;
 
 /// How a text is expanded.
 #[derive(Clone, Copy, Debug, Drop, PartialEq, Eq)]
@@ -39,49 +39,6 @@ pub struct Piece {
     pub len: usize,
 }
 
-/// Above every character.
-const NO_CHARACTER: u32 = 0x110000;
-
-fn name_chars(text: &[char]) -> usize
-    ensures value { result ≡ prefix_len chars.is_name_char text.now }
-    ensures within { result ≤ length text.now }
-{
-    text.iter().take_while(|c| is_name_char(**c)).count()
-}
-
-fn name_len(text: &[char]) -> usize
-    ensures value { result ≡ scanning.name_len text.now }
-    ensures within { result ≤ length text.now }
-{
-    match text.split_first() {
-        None => 0,
-        Some((c, _)) => {
-            if is_name_start(*c) {
-                name_chars(text)
-            } else {
-                0
-            }
-        }
-    }
-}
-
-/// The length of a mark of one character, a Name and `;`.
-fn reference_len(text: &[char]) -> Option<usize>
-    requires { 1 ≤ length text.now }
-    ensures value { result ≡ scanning.reference_len text.now }
-    ensures within { IfSome result (λ n. (2 ≤ n) × (n ≤ length text.now)) }
-    ensures name { IfSome result (λ n. IsTrue (is_name_list (named n text.now))) }
-{
-    let (_, rest) = text.split_at(1);
-    let length = name_len(rest);
-    let (_, end) = rest.split_at(length);
-    if 0 < length && end.starts_with(&[';']) {
-        Some(length + 2)
-    } else {
-        None
-    }
-}
-
 fn reference(kind: Kind, text: &[char]) -> Option<Piece>
     requires { 1 ≤ length text.now }
     ensures value { result ≡ spec.reference kind text.now }
@@ -94,120 +51,19 @@ fn reference(kind: Kind, text: &[char]) -> Option<Piece>
     }
 }
 
-fn is_digit(c: char) -> bool
-    ensures { result ≡ spec.is_digit c }
-{
-    '0' <= c && c <= '9'
-}
-
-fn is_hex_digit(c: char) -> bool
-    ensures { result ≡ spec.is_hex_digit c }
-{
-    is_digit(c) || ('A' <= c && c <= 'F') || ('a' <= c && c <= 'f')
-}
-
-fn digit_value(digit: char) -> u32
-    ensures value { result ≡ spec.digit_value digit }
-    ensures small { result < 0x110000 }
-{
-    let code = digit as u32;
-    if digit <= '9' {
-        code.saturating_sub(48)
-    } else if digit <= 'F' {
-        code.saturating_sub(55)
-    } else {
-        code.saturating_sub(87)
-    }
-}
-
-/// The number with one more digit, as far as characters go.
-fn with_digit(base: u32, number: u32, digit: char) -> u32
-    requires base { (1 ≤ base) × (base ≤ 16) }
-    requires number { number ≤ 0x110000 }
-    ensures { result ≡ min (base * number + spec.digit_value digit) 0x110000 }
-{
-    let next = base * number + digit_value(digit);
-    if next < NO_CHARACTER {
-        next
-    } else {
-        NO_CHARACTER
-    }
-}
-
-/// The number that digits write, or a number above every character where it is such a one.
-#[tactic(auto, using(crate::proofs::Numerals::capped))]
-fn number(base: u32, digits: &[char]) -> u32
-    requires { (1 ≤ base) × (base ≤ 16) }
-    ensures { result ≡ min (spec.number base digits.now) 0x110000 }
-{
-    let mut number = 0;
-    for digit in digits {
-        number = with_digit(base, number, *digit);
-    }
-    number
-}
-
-/// The character that digits name.
-fn char_named(base: u32, digits: &[char]) -> Option<char>
-    requires { (1 ≤ base) × (base ≤ 16) }
-    ensures { result ≡ spec.char_of (spec.number base digits.now) }
-{
-    match char::from_u32(number(base, digits)) {
-        None => None,
-        Some(c) => { if is_char(c) { Some(c) } else { None } }
-    }
-}
-
-/// The first n characters as digits with a `;`, behind an opening of a character reference.
-fn numeral_end(base: u32, opening: usize, text: &[char], n: usize) -> Option<Piece>
-    requires base { (1 ≤ base) × (base ≤ 16) }
-    requires opening { (2 ≤ opening) × (opening ≤ 3) }
-    requires within { n ≤ length text.now }
-    ensures value { result ≡ spec.numeral_end base opening text.now n }
-    ensures within { IfSome result (λ p. (2 ≤ p.len) × (p.len ≤ opening + length text.now)) }
-    ensures kind { IfSome result (λ p. p.kind ≢ Included) }
-{
-    let (digits, end) = text.split_at(n);
-    if 0 < n && end.starts_with(&[';']) {
-        match char_named(base, digits) {
-            None => None,
-            Some(c) => Some(Piece {
-                kind: Kind::Char(c),
-                len: opening + n + 1,
-            }),
-        }
-    } else {
-        None
-    }
-}
-
-fn digits_len(text: &[char]) -> usize
-    ensures value { result ≡ prefix_len spec.is_digit text.now }
-    ensures within { result ≤ length text.now }
-{
-    text.iter().take_while(|c| is_digit(**c)).count()
-}
-
-fn hex_digits_len(text: &[char]) -> usize
-    ensures value { result ≡ prefix_len spec.is_hex_digit text.now }
-    ensures within { result ≤ length text.now }
-{
-    text.iter().take_while(|c| is_hex_digit(**c)).count()
-}
-
-/// A character reference, whose `&#` stands there.
-fn char_reference(text: &[char]) -> Option<Piece>
+/// A reference to a character, whose `&#` stands there.
+fn char_piece(text: &[char]) -> Option<Piece>
     requires { 2 ≤ length text.now }
-    ensures value { result ≡ spec.char_reference text.now }
-    ensures within { IfSome result (λ p. (2 ≤ p.len) × (p.len ≤ length text.now)) }
+    ensures value { result ≡ option_map spec.char_piece (char_reference text.now) }
+    ensures within { IfSome result (λ p. (1 ≤ p.len) × (p.len ≤ length text.now)) }
     ensures kind { IfSome result (λ p. p.kind ≢ Included) }
 {
-    if text.starts_with(&['&', '#', 'x']) {
-        let (_, rest) = text.split_at(3);
-        numeral_end(16, 3, rest, hex_digits_len(rest))
-    } else {
-        let (_, rest) = text.split_at(2);
-        numeral_end(10, 2, rest, digits_len(rest))
+    match char_reference(text) {
+        None => None,
+        Some((c, len)) => Some(Piece {
+            kind: Kind::Char(c),
+            len,
+        }),
     }
 }
 
@@ -225,7 +81,7 @@ fn literal_piece(text: &[char]) -> Option<Piece>
                 reference(Kind::Included, text)
             } else if *c == '&' {
                 if rest.starts_with(&['#']) {
-                    char_reference(text)
+                    char_piece(text)
                 } else {
                     reference(Kind::Kept, text)
                 }
@@ -246,12 +102,6 @@ fn first_is_name_start(text: &[char]) -> bool
         None => false,
         Some((c, _)) => is_name_start(*c),
     }
-}
-
-fn is_quote(c: char) -> bool
-    ensures { result ≡ items.is_quote c }
-{
-    c == '"' || c == '\''
 }
 
 fn first_quote(quote: char, text: &[char]) -> Option<usize>
@@ -310,4 +160,22 @@ pub(crate) fn first_piece(manner: Manner, text: &[char]) -> Option<Piece>
         Manner::Literal => literal_piece(text),
         Manner::Body => body_piece(text),
     }
+}
+
+/// Whether a character stands for itself, and nesting is the same behind it.
+fn is_plain(manner: Manner, c: char) -> bool
+    ensures { result ≡ spec.is_plain manner c }
+{
+    match manner {
+        Manner::Literal => c != '%' && c != '&',
+        Manner::Body => !is_quote(c) && c != '%' && c != '<' && c != '>',
+    }
+}
+
+/// How many such characters the text begins with.
+pub(crate) fn plain_len(manner: Manner, text: &[char]) -> usize
+    ensures value { result ≡ prefix_len (spec.is_plain manner) text.now }
+    ensures within { result ≤ length text.now }
+{
+    text.iter().take_while(|c| is_plain(manner, **c)).count()
 }

@@ -1,41 +1,44 @@
 //! Expansion by a stack of texts that wait.
 
-ghost use Rattle.std.specs.Prelude.{◌≡◌, ◌++◌, ◌∷◌, ◌+◌, ◌<◌, ◌≤◌, IfOk, IfSome, IsTrue, OnOk, ◌==◌, ◌&&◌, ◌||◌, Ok, Some, None, [], drop, ℕ, List, bytes_eq, length, option_map};
-ghost use Rattle.std.specs.List.{list_any};
-ghost use Rattle.std.specs.Option.{option_copied, is_none};
-ghost use Rattle.dtd_scanner.specs.Scanning as scanning;
-ghost use Rattle.dtd_scanner.specs.Items as items;
+ghost use Rattle.std.specs.Prelude.{◌≡◌, ◌++◌, ◌∷◌, ◌+◌, ◌<◌, ◌≤◌, IfOk, IfSome, IsTrue, OnOk, ◌==◌, ◌||◌, not, Ok, Some, None, [], take, drop, ℕ, List, bytes_eq, length, option_map};
+ghost use Rattle.std.specs.List.{list_any, prefix_len};
+ghost use Rattle.std.specs.Option.{option_copied};
+ghost use Rattle.dtd_scanner.specs.References.{named};
 ghost use Rattle.jats_chars.specs.Names.{is_name};
 ghost use Rattle.pe_expansion.specs.Bound.{Bound, text_in};
 ghost use Rattle.pe_expansion.specs.Opening as spec;
 ghost use Rattle.pe_expansion.specs.Expansion as expansion;
 ghost use Rattle.pe_expansion.specs.Pieces as pieces;
 ghost use Rattle.pe_expansion.specs.Frames.{open_names, Closes, GoesOn, Stepped};
+ghost use Rattle.pe_expansion.specs.Nesting.{Judges};
 ghost use Rattle.pe_expansion.specs.Outcomes.{Fails, Gives, Expands};
 ghost use Rattle.pe_expansion.specs.declared.pieces.Kind.TheVariants.{Char, Kept, Included};
+ghost use Rattle.pe_expansion.specs.declared.pieces.Manner.TheVariants.{Body};
 
-use crate::pieces::{Kind, Manner, Piece, first_piece};
+use crate::pieces::{Kind, Manner, Piece, first_piece, plain_len};
 use crate::{Bindings, Budget, PeFault, PeText};
 use jats_chars::{Name, NameList, NoMemory, Text};
 use std::alloc::Global;
 
 /// The most names that may be open at once.
-const MOST_OPEN: usize = 32;
+pub(crate) const MOST_OPEN: usize = 32;
 
 /// The most characters that may be included in one set or article.
 const MOST_INCLUDED: u64 = 67_108_864;
 
-/// A text that waits, from a place on, until the text of a name ends, which stands in what is written from `start` on.
+/// A text that waits, from a place on, until the text of a name ends, which stands in what is written from `start` on;
+/// and whether the text that waits breaks nesting so far.
 #[derive(Debug, Drop)]
 pub struct Frame<'a> {
     pub name: &'a Name,
     pub text: &'a [char],
     pub at: usize,
     pub start: usize,
+    pub broken: bool,
 }
 
-/// An expansion under way: what is written, the count of included characters, the texts that wait, and the place in the
-/// text that is read.
+/// An expansion under way: what is written, the count of included characters, the texts that wait, the place in the text
+/// that is read, and whether that text breaks nesting so far.
 #[derive(Debug, Drop)]
 pub struct Work<'a> {
     pub written: Text,
@@ -43,17 +46,18 @@ pub struct Work<'a> {
     pub frames: Vec<Frame<'a>>,
     pub text: &'a [char],
     pub at: usize,
+    pub broken: bool,
 }
 
 /// An entity that may open: its name as it is bound, its text, and the count of included characters with it.
 #[derive(Debug, Drop)]
-struct Entered<'a> {
-    name: &'a Name,
-    text: &'a Text,
-    spent: u64,
+pub(crate) struct Entered<'a> {
+    pub name: &'a Name,
+    pub text: &'a Text,
+    pub spent: u64,
 }
 
-fn name_of(alloc: Global, name: &[char]) -> Result<Name, NoMemory>
+pub(crate) fn name_of(alloc: Global, name: &[char]) -> Result<Name, NoMemory>
     requires { IsTrue (is_name name.now) }
     ensures { IfOk result (λ n. n ≡ name.now) }
 {
@@ -63,7 +67,7 @@ fn name_of(alloc: Global, name: &[char]) -> Result<Name, NoMemory>
     }
 }
 
-fn is_in_chain(chain: &NameList, name: &Name) -> bool
+pub(crate) fn is_in_chain(chain: &NameList, name: &Name) -> bool
     ensures { result ≡ spec.is_open chain.now name.now }
 {
     chain.as_slice().iter().any(|n| *n == *name)
@@ -92,7 +96,7 @@ fn text_of(entity: &PeText) -> Option<&Text>
 }
 
 /// The text of an entity that may open.
-fn load<'a>(
+pub(crate) fn load<'a>(
     alloc: Global,
     name: &'a Name,
     entity: &'a PeText,
@@ -158,43 +162,29 @@ fn pad(manner: Manner, written: &mut Text) -> Result<(), NoMemory>
     }
 }
 
-fn is_quote(c: char) -> bool
-    ensures { result ≡ items.is_quote c }
+/// Whether a text breaks nesting behind a character outside quotes.
+fn breaks(broken: bool, c: char) -> bool
+    ensures { result ≡ (broken || (c == 60 || c == 62)) }
 {
-    c == '"' || c == '\''
+    broken || c == '<' || c == '>'
 }
 
-/// The quote that is open behind a character.
-fn quote_after(quote: Option<char>, c: char) -> Option<char>
-    ensures { result ≡ scanning.quote_after quote c }
+/// Whether the quoted part of this length at a place closes its quote.
+fn closes(manner: Manner, text: &[char], at: usize, len: usize) -> bool
+    requires within { (1 ≤ len) × (at + len ≤ length text.now) }
+    requires piece { pieces.first_piece manner (drop at text.now) ≡ Some (record { kind = Kept; len = len }) }
+    ensures { manner ≡ Body → result ≡ expansion.nests None (take len (drop at text.now)) }
 {
-    match quote {
-        None => { if is_quote(c) { Some(c) } else { None } }
-        Some(quote) => { if c == quote { None } else { Some(quote) } }
-    }
+    1 < len && text[at + len - 1] == text[at]
 }
 
-/// Whether the character is a `<` or `>` outside quotes.
-fn breaks(quote: Option<char>, c: char) -> bool
-    ensures { result ≡ (is_none quote && (c == 60 || c == 62)) }
+/// Whether a text breaks nesting behind the quoted part of this length at a place.
+fn breaks_behind(broken: bool, manner: Manner, text: &[char], at: usize, len: usize) -> bool
+    requires within { (1 ≤ len) × (at + len ≤ length text.now) }
+    requires piece { pieces.first_piece manner (drop at text.now) ≡ Some (record { kind = Kept; len = len }) }
+    ensures { manner ≡ Body → result ≡ (broken || not (expansion.nests None (take len (drop at text.now)))) }
 {
-    quote.is_none() && (c == '<' || c == '>')
-}
-
-/// Whether the quotes close in what is written from a place on, and no `<` or `>` stands outside quotes.
-#[tactic(auto, using(crate::proofs::Nesting::nests_on, crate::proofs::Nesting::nests_not, crate::proofs::Nesting::nests_end))]
-fn nests(written: &[char], start: usize) -> bool
-    ensures { result ≡ expansion.nests None (drop start written.now) }
-{
-    let mut quote = None;
-    for at in start..written.len() {
-        let c = written[at];
-        if breaks(quote, c) {
-            return false;
-        }
-        quote = quote_after(quote, c);
-    }
-    quote.is_none()
+    broken || !closes(manner, text, at, len)
 }
 
 /// Judges what an included text has become, and writes what stands behind it.
@@ -203,14 +193,16 @@ fn close(
     manner: Manner,
     name: &Name,
     start: usize,
+    broken: bool,
     written: &mut Text,
 ) -> Result<(), PeFault>
+    requires { manner ≡ Body → expansion.nests None (drop start written.old) ≡ not broken }
     ensures { (spent : ℕ) → Closes manner name.now start written.old written.new spent result }
 {
     match manner {
         Manner::Literal => Ok(()),
         Manner::Body => {
-            if !nests(written.as_slice(), start) {
+            if broken {
                 return Err(PeFault::PeNesting(name.copy(alloc)?));
             }
             written.push(' ')?;
@@ -219,12 +211,22 @@ fn close(
     }
 }
 
+/// How many characters that stand for themselves stand at a place.
+fn plain_from(manner: Manner, text: &[char], at: usize) -> usize
+    requires { at < length text.now }
+    ensures value { result ≡ prefix_len (pieces.is_plain manner) (drop at text.now) }
+    ensures within { at + result ≤ length text.now }
+{
+    let (_, rest) = text.split_at(at);
+    plain_len(manner, rest)
+}
+
 /// The piece at a place.
 fn piece_from(manner: Manner, text: &[char], at: usize) -> Option<Piece>
     requires { at < length text.now }
     ensures value { result ≡ pieces.first_piece manner (drop at text.now) }
     ensures within { IfSome result (λ p. (1 ≤ p.len) × (at + p.len ≤ length text.now)) }
-    ensures name { IfSome result (λ p. p.kind ≡ Included → (2 ≤ p.len) × IsTrue (is_name (expansion.named p.len (drop at text.now)))) }
+    ensures name { IfSome result (λ p. p.kind ≡ Included → (2 ≤ p.len) × IsTrue (is_name (named p.len (drop at text.now)))) }
 {
     let (_, rest) = text.split_at(at);
     first_piece(manner, rest)
@@ -233,7 +235,7 @@ fn piece_from(manner: Manner, text: &[char], at: usize) -> Option<Piece>
 /// The name in a reference.
 fn name_at(text: &[char], at: usize, len: usize) -> &[char]
     requires { (2 ≤ len) × (at + len ≤ length text.now) }
-    ensures { result.now ≡ expansion.named len (drop at text.now) }
+    ensures { result.now ≡ named len (drop at text.now) }
 {
     &text[at + 1..at + len - 1]
 }
@@ -241,17 +243,28 @@ fn name_at(text: &[char], at: usize, len: usize) -> &[char]
 /// Goes on with the last text that waits, and answers whether there was one.
 #[tactic(auto, unfolding(crate::specs::Frames::left_of, crate::specs::Frames::size_of))]
 fn go_on(alloc: Global, manner: Manner, work: &mut Work) -> Result<bool, PeFault>
-    requires { length work.old.text.now ≤ work.old.at }
-    ensures { (bound : Bound) (chain : List (List ℕ)) → GoesOn manner bound chain work.old work.new result }
+    requires ends { length work.old.text.now ≤ work.old.at }
+    requires judges { Judges manner work.old }
+    ensures goes_on { (bound : Bound) (chain : List (List ℕ)) → GoesOn manner bound chain work.old work.new result }
+    ensures judges { OnOk result (Judges manner work.new) }
 {
     match work.frames.pop() {
         None => Ok(false),
         Some(frame) => {
-            match close(alloc, manner, frame.name, frame.start, &mut work.written) {
+            let broken = work.broken;
+            match close(
+                alloc,
+                manner,
+                frame.name,
+                frame.start,
+                broken,
+                &mut work.written,
+            ) {
                 Err(fault) => Err(fault),
                 Ok(()) => {
                     work.text = frame.text;
                     work.at = frame.at;
+                    work.broken = frame.broken;
                     Ok(true)
                 }
             }
@@ -263,10 +276,13 @@ fn go_on(alloc: Global, manner: Manner, work: &mut Work) -> Result<bool, PeFault
 fn put(manner: Manner, work: &mut Work, c: char, len: usize) -> Result<(), PeFault>
     requires within { (1 ≤ len) × (work.old.at + len ≤ length work.old.text.now) }
     requires piece { pieces.first_piece manner (drop work.old.at work.old.text.now) ≡ Some (record { kind = Char c; len = len }) }
-    ensures { (bound : Bound) (chain : List (List ℕ)) → Stepped manner bound chain work.old work.new result }
+    requires judges { Judges manner work.old }
+    ensures steps { (bound : Bound) (chain : List (List ℕ)) → Stepped manner bound chain work.old work.new result }
+    ensures judges { OnOk result (Judges manner work.new) }
 {
     work.written.push(c)?;
     work.at += len;
+    work.broken = breaks(work.broken, c);
     Ok(())
 }
 
@@ -274,10 +290,29 @@ fn put(manner: Manner, work: &mut Work, c: char, len: usize) -> Result<(), PeFau
 fn keep(manner: Manner, work: &mut Work, len: usize) -> Result<(), PeFault>
     requires within { (1 ≤ len) × (work.old.at + len ≤ length work.old.text.now) }
     requires piece { pieces.first_piece manner (drop work.old.at work.old.text.now) ≡ Some (record { kind = Kept; len = len }) }
-    ensures { (bound : Bound) (chain : List (List ℕ)) → Stepped manner bound chain work.old work.new result }
+    requires judges { Judges manner work.old }
+    ensures steps { (bound : Bound) (chain : List (List ℕ)) → Stepped manner bound chain work.old work.new result }
+    ensures judges { OnOk result (Judges manner work.new) }
 {
     let text = work.text;
-    work.written.push_slice(&text[work.at..work.at + len])?;
+    let at = work.at;
+    work.written.push_slice(&text[at..at + len])?;
+    work.at += len;
+    work.broken = breaks_behind(work.broken, manner, text, at, len);
+    Ok(())
+}
+
+/// Copies characters that stand for themselves.
+fn copy(manner: Manner, work: &mut Work, len: usize) -> Result<(), PeFault>
+    requires within { (1 ≤ len) × (work.old.at + len ≤ length work.old.text.now) }
+    requires plain { len ≤ prefix_len (pieces.is_plain manner) (drop work.old.at work.old.text.now) }
+    requires judges { Judges manner work.old }
+    ensures steps { (bound : Bound) (chain : List (List ℕ)) → Stepped manner bound chain work.old work.new result }
+    ensures judges { OnOk result (Judges manner work.new) }
+{
+    let text = work.text;
+    let at = work.at;
+    work.written.push_slice(&text[at..at + len])?;
     work.at += len;
     Ok(())
 }
@@ -293,8 +328,10 @@ fn open_text<'a>(
 ) -> Result<(), PeFault>
     requires within { (2 ≤ len) × (work.old.at + len ≤ length work.old.text.now) }
     requires piece { pieces.first_piece manner (drop work.old.at work.old.text.now) ≡ Some (record { kind = Included; len = len }) }
-    requires name { IsTrue (is_name (expansion.named len (drop work.old.at work.old.text.now))) }
-    ensures { Stepped manner bound.now chain.now work.old work.new result }
+    requires name { IsTrue (is_name (named len (drop work.old.at work.old.text.now))) }
+    requires judges { Judges manner work.old }
+    ensures steps { Stepped manner bound.now chain.now work.old work.new result }
+    ensures judges { OnOk result (Judges manner work.new) }
 {
     let text = work.text;
     let at = work.at;
@@ -314,16 +351,18 @@ fn open_text<'a>(
                 text,
                 at: at + len,
                 start: work.written.len(),
+                broken: work.broken,
             })?;
             work.spent = entered.spent;
             work.text = entered.text.as_slice();
             work.at = 0;
+            work.broken = false;
             Ok(())
         }
     }
 }
 
-/// One piece.
+/// The characters that stand for themselves at the place, or else one piece.
 fn step<'a>(
     alloc: Global,
     manner: Manner,
@@ -331,9 +370,15 @@ fn step<'a>(
     chain: &NameList,
     work: &mut Work<'a>,
 ) -> Result<(), PeFault>
-    requires { work.old.at < length work.old.text.now }
-    ensures { Stepped manner bound.now chain.now work.old work.new result }
+    requires within { work.old.at < length work.old.text.now }
+    requires judges { Judges manner work.old }
+    ensures steps { Stepped manner bound.now chain.now work.old work.new result }
+    ensures judges { OnOk result (Judges manner work.new) }
 {
+    let plain = plain_from(manner, work.text, work.at);
+    if plain > 0 {
+        return copy(manner, work, plain);
+    }
     let Some(piece) = piece_from(manner, work.text, work.at) else {
         return Err(PeFault::Malformed);
     };
@@ -350,17 +395,19 @@ pub(crate) fn expanded(
     manner: Manner,
     bound: &Bindings,
     chain: &NameList,
-    text: &Text,
+    text: &[char],
     budget: &mut Budget,
 ) -> Result<Text, PeFault>
-    ensures { Expands (expansion.expansion_of manner bound.now chain.now budget.old.spent text.now) budget.old.spent budget.new.spent result }
+    ensures gives { Expands (expansion.expansion_of manner bound.now chain.now budget.old.spent text.now) budget.old.spent budget.new.spent result }
+    ensures rises { budget.old.spent ≤ budget.new.spent }
 {
     let mut work = Work {
         written: Text::new(alloc),
         spent: budget.spent,
         frames: Vec::new(alloc),
-        text: text.as_slice(),
+        text,
         at: 0,
+        broken: false,
     };
     let mut more = true;
     while more {

@@ -37,6 +37,10 @@ fn entities(alloc: Global) -> Result<Bindings, NoMemory> {
         ("begins", "b>%c d"),
         ("amp", "&"),
         ("two", "%b;%b;"),
+        ("early", "<%e;"),
+        ("late", "%e;>"),
+        ("lone", "%e;b'"),
+        ("shut", "'<'%e;\">\""),
         ("é", "é"),
     ] {
         bind(alloc, &mut bound, n, text)?;
@@ -124,6 +128,10 @@ fn bodies_are_expanded(rt: HostRuntime) -> Result<(), Fail> {
         (" < %b; >", "ok", " <  |b  >", 2),
         (" y %quote;'", "nesting", "quote", 0),
         (" (%marks;)", "nesting", "marks", 0),
+        (" %early;", "nesting", "early", 0),
+        (" %late;", "nesting", "late", 0),
+        (" %lone;'", "nesting", "lone", 0),
+        (" %shut;", "ok", "  '<'  \">\" ", 9),
         (" %begins;", "malformed", "", 0),
         (" (%b c)", "malformed", "", 0),
         (" %o;%zz;", "not loaded", "o", 0),

@@ -1,9 +1,13 @@
 pub mod Choices
 pub mod Deciding
+pub mod Examples
 pub mod Exchange
 pub mod Following
 pub mod Found
+pub mod Judgements
+pub mod Judging
 pub mod Letters
+pub mod Listing
 pub mod Lists
 pub mod Local
 pub mod Meaning
@@ -12,10 +16,13 @@ pub mod Outcomes
 pub mod Buckets
 pub mod Building
 pub mod Run
+pub mod Rising
 pub mod Running
+pub mod Shared
 pub mod Spelling
 pub mod States
 pub mod Steps
 pub mod Tabled
 pub mod Telling
+pub mod Unique
 pub mod Words

@@ -113,7 +113,7 @@ beside-to x [] i j m = elim m [ ]
 beside-to x (y ∷ ys) i j (inl e) = (ap (λ p. p.0) e, inl (ap (λ p. p.1) e))
 beside-to x (y ∷ ys) i j (inr m) = let t = beside-to x ys i j m in (t.0, inr t.1)
 
-product-to : (xs ys : List ℕ) (i j : ℕ) → Member (i, j) (product xs ys) → Member i xs × Member j ys
+pub product-to : (xs ys : List ℕ) (i j : ℕ) → Member (i, j) (product xs ys) → Member i xs × Member j ys
 product-to [] ys i j m = elim m [ ]
 product-to (x ∷ xs) ys i j m = elim (member-cases (i, j) (beside x ys) (product xs ys) m) [
   | inl k ↦ (let t = beside-to x ys i j k in (inl t.0, t.1))
@@ -167,7 +167,7 @@ beside-from x [] j m = elim m [ ]
 beside-from x (y ∷ ys) j (inl e) = inl (ap (λ z. (x, z)) e)
 beside-from x (y ∷ ys) j (inr m) = inr (beside-from x ys j m)
 
-product-from : (xs ys : List ℕ) (i j : ℕ) → Member i xs → Member j ys → Member (i, j) (product xs ys)
+pub product-from : (xs ys : List ℕ) (i j : ℕ) → Member i xs → Member j ys → Member (i, j) (product xs ys)
 product-from [] ys i j m n = elim m [ ]
 product-from (x ∷ xs) ys i j (inl e) n =
     member-left (i, j) (beside x ys) (product xs ys) (subst (λ (z : ℕ). Member (i, j) (beside z ys)) e (beside-from i ys j n))

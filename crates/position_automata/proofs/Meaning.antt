@@ -1,9 +1,10 @@
 -- The rows of a model hold the states that follow.
-use Rattle.std.proofs.Common.{◌≡◌, ◌<◌, ◌+◌, ℕ, zero, suc, List, [], ◌∷◌, ◌++◌, length, get_or, cond, inl, inr, refl, sym, ap, ◌∙◌, subst, arith, Contains}
+use Rattle.std.proofs.Common.{◌≡◌, ◌<◌, ◌+◌, ℕ, zero, suc, List, [], ◌∷◌, ◌++◌, length, get_or, cond, inl, inr, refl, sym, ap, ◌∙◌, subst, arith, Contains, ◌↔◌}
 use Rattle.std.proofs.lemmas.Bool.{cases_eq, eq-eqb, ne_eqb}
 use Rattle.std.proofs.lemmas.List.{get_or_append_left, get_or-append-add, length-append}
 use Rattle.content_models.specs.Re.{Re, Eps, Sym, Cat, Alt, Plus}
 use Rattle.position_automata.specs.Marked.{count, numbered, end, IsMarked, Follows}
+use Rattle.position_automata.specs.Owed.{SamePairs}
 use Rattle.position_automata.specs.Places.{firsts, edges, beside, letters, pairs}
 use Rattle.position_automata.specs.Rows.{targets}
 use Rattle.position_automata.proofs.Words.{Member, Holds}
@@ -47,6 +48,15 @@ targets-from i j (p ∷ ps) (inr m) = elim (cases_eq p.0 i) [
   | inl e ↦ subst (Member j) (sym (hit i p ps e)) (inr (targets-from i j ps m))
   | inr e ↦ subst (Member j) (sym (miss i p ps e)) (targets-from i j ps m)
 ]
+
+-- lists of the same pairs have the same rows
+pub same_targets : (xs ys : List (ℕ × ℕ)) → SamePairs xs ys → (i j : ℕ) → Contains (targets i xs) j ↔ Contains (targets i ys) j
+same_targets xs ys same i j = (move xs ys (λ p. (same p).0), move ys xs (λ p. (same p).1))
+  where
+    move : (xs ys : List (ℕ × ℕ)) → ((p : ℕ × ℕ) → Contains xs p → Contains ys p) → Contains (targets i xs) j → Contains (targets i ys) j
+    move xs ys within c =
+        let d = within (i, j) (contains_of xs (i, j) (targets-to i j xs (member_of (targets i xs) j c.0 c.1 c.2))) in
+        contains_of (targets i ys) j (targets-from i j ys (member_of ys (i, j) d.0 d.1 d.2))
 
 abbrev pub FollowsIt : {A : Type 0} → Re A → ℕ → ℕ → Type 0
 FollowsIt {A} r i j = (a : A) × Follows r i a j

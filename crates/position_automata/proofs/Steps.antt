@@ -1,7 +1,7 @@
 -- Each step of the walk over plain values.
 use Rattle.std.proofs.Common.{◌≡◌, List, [], ◌∷◌, ◌++◌, ℕ, zero, suc, ◌+◌, ◌<◌, ◌≤◌, length, take, get_or, ◌&&◌, ◌||◌, refl, ap, ◌∙◌, arith}
 use Rattle.std.specs.Prelude.{if◌then◌else◌}
-use Rattle.std.proofs.lemmas.List.{append_assoc, append-nil, map-append, take_more}
+use Rattle.std.proofs.lemmas.List.{map-append, take_more}
 use Rattle.content_models.specs.declared.content.Occurs.{Occurs}
 use Rattle.content_models.specs.declared.content.Occurs.TheVariants.{Once, Opt, Star}
 use Rattle.content_models.specs.declared.content.Occurs.TheVariants as sign
@@ -10,7 +10,7 @@ use Rattle.content_models.specs.Model.{Chars, model, occurring, in_order}
 use Rattle.content_models.specs.Re.{Re, Eps, Cat}
 use Rattle.position_automata.specs.Marked.{count}
 use Rattle.position_automata.specs.declared.walk.Ends.{Ends}
-use Rattle.position_automata.specs.Places.{nullable, firsts, lasts, product, edges, models, IsEnds, allows_none, loops}
+use Rattle.position_automata.specs.Places.{nullable, firsts, lasts, models, IsEnds, allows_none}
 
 pub plus-zero : (k : ℕ) → k ≡ k + 0
 plus-zero k = omega arith
@@ -28,20 +28,6 @@ ends-occurring k r Opt e f I n a b = record { nullable_is = n; first_is = a ∙ 
 ends-occurring k r Star e f I n a b = record { nullable_is = n; first_is = a ∙ I.first_is ∙ ap (λ i. firsts i r) (plus-zero k); last_is = b ∙ I.last_is ∙ ap (λ i. lasts i r) (plus-zero k) }
 ends-occurring k r sign.Plus e f I n a b = record { nullable_is = n ∙ I.nullable_is; first_is = a ∙ I.first_is; last_is = b ∙ I.last_is }
 
-looped : (k : ℕ) (r : Re Chars) (e : Ends) → IsEnds k r e → product e.last.items e.first.items ≡ product (lasts k r) (firsts k r)
-looped k r e I = ap (λ x. product x e.first.items) I.last_is ∙ ap (product (lasts k r)) I.first_is
-
-pub edges-occurring : (k : ℕ) (r : Re Chars) (m : Occurs) (e : Ends) (old mid new : List (ℕ × ℕ)) → IsEnds k r e
-    → mid ≡ old ++ edges k r → new ≡ mid ++ loops m e.last.items e.first.items → new ≡ old ++ edges k (occurring m r)
-edges-occurring k r Once e old mid new I a b = b ∙ append-nil mid ∙ a
-edges-occurring k r Opt e old mid new I a b = b ∙ append-nil mid ∙ a ∙ ap (λ i. old ++ edges i r) (plus-zero k)
-edges-occurring k r Star e old mid new I a b =
-    b ∙ ap (λ x. x ++ product e.last.items e.first.items) a ∙ append_assoc old (edges k r) (product e.last.items e.first.items)
-    ∙ ap (λ x. old ++ (edges k r ++ x)) (looped k r e I) ∙ ap (λ i. old ++ (edges i r ++ product (lasts i r) (firsts i r))) (plus-zero k)
-edges-occurring k r sign.Plus e old mid new I a b =
-    b ∙ ap (λ x. x ++ product e.last.items e.first.items) a ∙ append_assoc old (edges k r) (product e.last.items e.first.items)
-    ∙ ap (λ x. old ++ (edges k r ++ x)) (looped k r e I)
-
 pub ends-join : (k : ℕ) (r s : Re Chars) (a b e : Ends) → IsEnds k r a → IsEnds (k + count r) s b
     → e.nullable ≡ (a.nullable && b.nullable)
     → e.first.items ≡ a.first.items ++ (if a.nullable then b.first.items else [])
@@ -55,15 +41,6 @@ ends-join k r s a b e A B n f l = record {
       ∙ ap (λ x. lasts (k + count r) s ++ (if x then a.last.items else [])) B.nullable_is
       ∙ ap (λ x. lasts (k + count r) s ++ (if nullable s then x else [])) A.last_is;
 }
-
-pub edges-join : (k : ℕ) (r s : Re Chars) (a b : Ends) (old one two new : List (ℕ × ℕ)) → IsEnds k r a → IsEnds (k + count r) s b
-    → one ≡ old ++ edges k r → two ≡ one ++ edges (k + count r) s → new ≡ two ++ product a.last.items b.first.items
-    → new ≡ old ++ edges k (Cat r s)
-edges-join k r s a b old one two new A B e f g =
-    let q = k + count r in
-    g ∙ ap (λ x. x ++ product a.last.items b.first.items) (f ∙ ap (λ x. x ++ edges q s) e ∙ append_assoc old (edges k r) (edges q s))
-    ∙ append_assoc old (edges k r ++ edges q s) (product a.last.items b.first.items)
-    ∙ ap (λ x. old ++ ((edges k r ++ edges q s) ++ x)) (ap (λ x. product x b.first.items) A.last_is ∙ ap (product (lasts k r)) B.first_is)
 
 pub in_order-push : (acc : Re Chars) (rs : List (Re Chars)) (r : Re Chars) → in_order acc (rs ++ r ∷ []) ≡ Cat (in_order acc rs) r
 in_order-push acc [] r = refl

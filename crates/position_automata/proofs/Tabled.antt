@@ -156,3 +156,15 @@ pub proper_count : (content : Content) (part : Particle) → content ≡ Childre
 proper_count content part e h =
     let a : names_in part ≤ 1024 = proper_names part (subst IsProper e h) in
     omega (arith, counted part)
+
+-- equal parts make the same table
+pub same_table : (content : Content) (names keys : List Chars) (rows : List (List (ℕ × ℕ))) (accepting : List Bool)
+    (content' : Content) (names' keys' : List Chars) (rows' : List (List (ℕ × ℕ))) (accepting' : List Bool)
+    → content' ≡ content → names' ≡ names → keys' ≡ keys → rows' ≡ rows → accepting' ≡ accepting
+    → IsTable content names keys rows accepting → IsTable content' names' keys' rows' accepting'
+same_table content names keys rows accepting content' names' keys' rows' accepting' a b c d e t =
+    subst (λ (x : List Bool). IsTable content' names' keys' rows' x) (sym e)
+    (subst (λ (x : List (List (ℕ × ℕ))). IsTable content' names' keys' x accepting) (sym d)
+    (subst (λ (x : List Chars). IsTable content' names' x rows accepting) (sym c)
+    (subst (λ (x : List Chars). IsTable content' x keys rows accepting) (sym b)
+    (subst (λ (x : Content). IsTable x names keys rows accepting) (sym a) t))))

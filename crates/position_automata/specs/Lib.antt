@@ -1,8 +1,10 @@
 pub mod Automata
 pub mod Ends
+pub mod Judged
 pub mod Laws
 pub mod Marked
 pub mod Outcomes
+pub mod Owed
 pub mod Places
 pub mod Rows
 pub mod Tables

@@ -2,7 +2,6 @@
 use Rattle.std.specs.Prelude.{◌≡◌, List, [], ◌∷◌, ◌++◌, ℕ, ◌+◌, Bool, true, false, ◌&&◌, ◌||◌, if◌then◌else◌, map}
 use Rattle.content_models.specs.declared.content.Occurs.{Occurs}
 use Rattle.content_models.specs.declared.content.Occurs.TheVariants.{Opt, Star}
-use Rattle.content_models.specs.declared.content.Occurs.TheVariants as sign
 use Rattle.content_models.specs.declared.content.Particle.{Particle}
 use Rattle.content_models.specs.Model.{Chars, model}
 use Rattle.content_models.specs.Re.{Re, Eps, Sym, Cat, Alt, Plus}
@@ -72,12 +71,6 @@ abbrev pub allows_none : Occurs → Bool
 allows_none Opt = true
 allows_none Star = true
 allows_none _ = false
-
--- the way back that the sign gives
-abbrev pub loops : Occurs → List ℕ → List ℕ → List (ℕ × ℕ)
-loops Star xs ys = product xs ys
-loops sign.Plus xs ys = product xs ys
-loops _ xs ys = []
 
 -- the names of these models in order
 abbrev pub all_letters : List (Re Chars) → List Chars

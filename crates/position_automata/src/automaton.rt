@@ -12,9 +12,9 @@ ghost use Rattle.position_automata.specs.Rows.{at_position};
 ghost use Rattle.position_automata.specs.Tables.{step_names, IsSimple, Builds};
 
 use crate::BuildFault;
-use crate::names::{distinct, has_name, number_of, spell};
+use crate::names::{copy_distinct, distinct, has_name, number_of, spell};
 use crate::parts::{accepting, flags, model_pairs, model_rows};
-use crate::rows::{Row, total_len};
+use crate::rows::{Row, copy_rows, total_len};
 use content_models::{Content, Particle};
 use indexmap::IndexSet;
 use jats_chars::{ListOf, Name, NameList, NoMemory};
@@ -118,6 +118,15 @@ pub fn build(alloc: Global, content: &Content) -> Result<Automaton, BuildFault>
     }
 }
 
+fn copy_flags(alloc: Global, flags: &[bool]) -> Result<Vec<bool>, NoMemory>
+    ensures { IfOk result (λ v. v.items ≡ flags.now) }
+{
+    match Vec::from_slice(alloc, flags) {
+        Ok(copied) => Ok(copied),
+        Err(_) => Err(NoMemory),
+    }
+}
+
 fn flag_at(flags: &[bool], at: usize) -> bool
     ensures { result ≡ slice_index_or flags.now at false }
 {
@@ -190,14 +199,17 @@ impl Automaton {
         self.rows.len() as u32
     }
 
-    /// The same automaton, built again from its content.
+    /// The same automaton.
     pub fn copy(&self, alloc: Global) -> Result<Automaton, NoMemory>
         ensures { IfOk result (λ a. a ≡ self.now) }
     {
-        match build(alloc, &self.content) {
-            Ok(automaton) => Ok(automaton),
-            Err(_) => Err(NoMemory),
-        }
+        Ok(Automaton {
+            content: self.content.copy(alloc)?,
+            letters: self.letters.copy(alloc)?,
+            names: copy_distinct(alloc, &self.names)?,
+            rows: copy_rows(alloc, self.rows.as_slice())?,
+            accepting: copy_flags(alloc, self.accepting.as_slice())?,
+        })
     }
 
     /// Whether a list of names may end in this state.

@@ -9,13 +9,15 @@
 //! `build` gives an `Automaton` exactly where a content is deterministic. A contract sees the automaton as its content,
 //! so that `step`, `step_of`, `follows`, `accepts_at` and `run` speak of the definitions directly. Inside, a walk over
 //! the model finds its first and last names and the pairs that may stand side by side; each state keeps its row of
-//! positions in order, with a look-up by the number of a name.
+//! positions in order, with a look-up by the number of a name. The pairs of a loop are listed only where no loop around
+//! it lists them too, so that a nest of loops lists each pair once.
 #![tactic(auto)]
 
 mod automaton;
 mod fault;
 mod laws;
 mod names;
+mod owed;
 mod parts;
 mod rows;
 #[cfg(test)]
@@ -24,5 +26,6 @@ mod walk;
 
 pub use automaton::{Automaton, build};
 pub use fault::BuildFault;
-pub use laws::states_law;
+pub use laws::{judging_law, states_law};
+pub use owed::Product;
 pub use walk::Ends;

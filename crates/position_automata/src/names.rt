@@ -47,6 +47,17 @@ pub fn distinct(alloc: Global, names: &[Name]) -> Result<IndexSet<Name>, NoMemor
     Ok(found)
 }
 
+/// The same names, in their order.
+pub fn copy_distinct(alloc: Global, names: &IndexSet<Name>) -> Result<IndexSet<Name>, NoMemory>
+    ensures { IfOk result (λ s. s.keys ≡ names.now.keys) }
+{
+    let mut copied = IndexSet::new(alloc);
+    for name in names.as_slice() {
+        copied.insert(name.copy(alloc)?)?;
+    }
+    Ok(copied)
+}
+
 /// The number of a name: its place among the distinct ones, or how many there are where it is none of them.
 pub fn number_of(found: &IndexSet<Name>, name: &Name) -> usize
     ensures { result ≡ position_or_len (bytes_eq name.now) found.now.keys }

@@ -4,13 +4,15 @@ ghost use Rattle.std.specs.Prelude.{◌≡◌, ◌≤◌, ◌<◌, ◌+◌, ◌=
 ghost use Rattle.std.specs.List.{list_any};
 ghost use Rattle.content_models.specs.Model.{model};
 ghost use Rattle.position_automata.specs.Marked.{count};
+ghost use Rattle.position_automata.specs.Owed.{SamePairs};
 ghost use Rattle.position_automata.specs.Places.{letters as letters_of, pairs, IsEnds};
 ghost use Rattle.position_automata.specs.Tables.{AreKeys, ModelRows};
 
 use crate::BuildFault;
 use crate::names::numbers;
+use crate::owed::{push_beside, push_owed};
 use crate::rows::{Row, bucket, rows};
-use crate::walk::{Ends, push_beside, walk};
+use crate::walk::{Ends, walk};
 use content_models::Particle;
 use indexmap::IndexSet;
 use jats_chars::{ListOf, Name, NoMemory};
@@ -19,10 +21,11 @@ use std::alloc::Global;
 /// Where the lists of a model begin and end, and the pairs of a state and a position that may come next.
 pub fn model_pairs(alloc: Global, part: &Particle) -> Result<(Ends, Vec<(u32, u32)>), NoMemory>
     requires { count (model part.now) ≤ 1024 }
-    ensures { IfOk result (λ t. IsEnds 1 (model part.now) t.0 × (t.1.items ≡ pairs (model part.now))) }
+    ensures { IfOk result (λ t. IsEnds 1 (model part.now) t.0 × SamePairs t.1.items (pairs (model part.now))) }
 {
     let mut found = Vec::new(alloc);
     let (ends, _) = walk(alloc, part, 1, &mut found)?;
+    push_owed(&mut found, ends.owed.as_slice())?;
     push_beside(&mut found, 0, ends.first.as_slice())?;
     Ok((ends, found))
 }
@@ -38,7 +41,7 @@ pub fn model_rows(
     requires small { count (model part.now) ≤ 1024 }
     requires letters { letters.now ≡ letters_of (model part.now) }
     requires names { AreKeys letters.now names.now.keys }
-    requires found { found.now ≡ pairs (model part.now) }
+    requires found { SamePairs found.now (pairs (model part.now)) }
     ensures { ModelRows part.now names.now.keys result }
 {
     let numbers = numbers(alloc, names, letters)?;

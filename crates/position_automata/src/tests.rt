@@ -3,6 +3,7 @@
 ghost use Rattle.std.specs.Prelude.{IfOk, IfSome};
 ghost use Rattle.content_models.specs.Proper.{IsProper};
 
+use crate::parts::model_pairs;
 use crate::{Automaton, BuildFault, build};
 use content_models::{Content, parse_content};
 use jats_chars::{Name, NameList, NoMemory, Text};
@@ -75,6 +76,27 @@ fn step_at(automaton: &Automaton, state: u32, name: &Name) -> Option<u32> {
     }
 }
 
+/// How many pairs of a state and a position are listed.
+#[tactic(auto, using(crate::proofs::Tabled::proper_count))]
+fn listed(alloc: Global, content: &Content) -> Result<u64, NoMemory>
+    requires { IsProper content.now }
+{
+    match content {
+        Content::Children(part) => {
+            let (_, found) = model_pairs(alloc, part)?;
+            Ok(found.len() as u64)
+        }
+        _ => Ok(0),
+    }
+}
+
+fn listed_of(alloc: Global, model: &str) -> Result<Option<u64>, NoMemory> {
+    match content_of(alloc, model)? {
+        None => Ok(None),
+        Some(content) => Ok(Some(listed(alloc, &content)?)),
+    }
+}
+
 /// Where the k-th step of a state leads, if it is on this name.
 fn told_at(automaton: &Automaton, state: u32, k: usize, name: &Name) -> Option<u32> {
     if state < automaton.states() {
@@ -92,7 +114,11 @@ fn told(rt: HostRuntime) -> Result<(), Fail> {
     let p = Text::from_str(rt.alloc(), "p")?;
     let p = Name::from_text(rt.alloc(), &p)?.ok_or("no name")?;
     let chain = "(p,(p,(p,(p,p?)?)?)?)";
-    for (model, states, follows, next) in [("(p+)", 2, 2, 1), (chain, 6, 5, 2)] {
+    for (model, states, follows, next) in [
+        ("(p+)", 2, 2, 1),
+        ("(((p)+)+)+", 2, 2, 1),
+        (chain, 6, 5, 2),
+    ] {
         let automaton = automaton_of(rt.alloc(), model)?.ok_or("no automaton")?;
         assert_eq!(rt; automaton.states(), states);
         assert_eq!(rt; automaton.follows(), follows);
@@ -107,10 +133,24 @@ fn told(rt: HostRuntime) -> Result<(), Fail> {
 }
 
 #[test]
+fn listed_once(rt: HostRuntime) -> Result<(), Fail> {
+    for (model, follows) in [
+        ("((x*,y?)*,z?)*", 12),
+        ("((((x|y)*)*)*)*", 6),
+        ("(a?,(b+,c?)*,d)+", 13),
+    ] {
+        let automaton = automaton_of(rt.alloc(), model)?.ok_or("no automaton")?;
+        assert_eq!(rt; automaton.follows(), follows);
+        assert_eq!(rt; listed_of(rt.alloc(), model)?, Some(follows));
+    }
+    Ok(())
+}
+
+#[test]
 fn derived(rt: HostRuntime) -> Result<(), Fail> {
     let table =
         "(a,(b|c))=a b;(a,(b|c))=a c;(a,b?)=a;(a*)=;(a*)=a a a;(a+)=a;((a,b)+)=a b a b;((a|b)*,c?)=a b b c;EMPTY=;ANY=x y;\
-        (#PCDATA|a|b)*=b a b;(#PCDATA)=;(p,(p,(p,(p,p?)?)?)?)=p p p;((a?,b)?,c)=c;((a?,b)?,c)=b c";
+        (#PCDATA|a|b)*=b a b;(#PCDATA)=;(p,(p,(p,(p,p?)?)?)?)=p p p;((a?,b)?,c)=c;((a?,b)?,c)=b c;((x*,y?)*,z?)*=z x z y y x;((x*,y?)*,z)*=x y x z z";
     for row in table.split(';') {
         let (model, names) = row.split_once('=').ok_or("a row without names")?;
         assert!(rt; derives(rt.alloc(), model, names)?, "{row}");
@@ -122,7 +162,7 @@ fn derived(rt: HostRuntime) -> Result<(), Fail> {
 fn not_derived(rt: HostRuntime) -> Result<(), Fail> {
     let table =
         "(a,(b|c))=a;(a,(b|c))=a b c;(a,(b|c))=b;(a+)=;((a,b)+)=a b a;EMPTY=a;(#PCDATA|a|b)*=c;(#PCDATA)=a;\
-        (p,(p,(p,(p,p?)?)?)?)=p p p p p p;((a?,b)?,c)=a c;((a|b)*,c?)=c c";
+        (p,(p,(p,(p,p?)?)?)?)=p p p p p p;((a?,b)?,c)=a c;((a|b)*,c?)=c c;((x*,y?)*,z)*=z x y";
     for row in table.split(';') {
         let (model, names) = row.split_once('=').ok_or("a row without names")?;
         assert!(rt; !derives(rt.alloc(), model, names)?, "{row}");

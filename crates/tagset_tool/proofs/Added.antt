@@ -6,7 +6,7 @@ use Rattle.std.proofs.lemmas.Grind.{common_steps}
 use Rattle.content_models.specs.declared.content.Content.{Content}
 use Rattle.content_models.specs.declared.content.Content.TheVariants.{Mixed}
 use Rattle.content_models.specs.Model.{among}
-use Rattle.decl_set.specs.Declarations.{Declarations, content_in}
+use Rattle.plain_set.specs.Declarations.{Declarations, content_in}
 use Rattle.tagset_tool.specs.Reached.{IsReached}
 use Rattle.tagset_tool.specs.Checks.{declared, led, closes, listed_in, Listed, IsListed, AddsListed, AddsChildren, content_at}
 use Rattle.tagset_tool.proofs.Documents.{child_reached}

@@ -7,18 +7,18 @@ use Rattle.jats_chars.specs.Names.{is_name}
 use Rattle.content_models.specs.declared.content.Content.{Content}
 use Rattle.content_models.specs.declared.content.Content.TheVariants.{Empty, Any, Mixed, Children}
 use Rattle.content_models.specs.Model.{Derives, among}
-use Rattle.decl_set.specs.Declarations.{Declarations, Element, content_in}
+use Rattle.plain_set.specs.Declarations.{Declarations, Element, content_in}
 use Rattle.document_trees.specs.Trees.{Items, nothing, element, chars, comment, pi, Node, IsWellMade, EachBelow, EachNode, child_names, elements_alone, are_items}
-use Rattle.decl_set.specs.Validity.{IsValid, IsSeparating, IsSubset, Meets, MeetsContent, TextAllowed}
+use Rattle.plain_set.specs.Validity.{IsValid, IsSeparating, IsSubset, Meets, MeetsContent, TextAllowed}
 use Rattle.content_models.specs.Kinds.{text_kind}
 use Rattle.document_trees.specs.Trees.{stands_below}
-use Rattle.decl_set.specs.Validity.{HasDocument, IsUseful}
-use Rattle.decl_set.specs.Breaks.{Cause, ContentBreaks, BreaksBy, Breaks, IsKept, IsFirstBroken}
+use Rattle.plain_set.specs.Validity.{HasDocument, IsUseful}
+use Rattle.plain_set.specs.Breaks.{Cause, ContentBreaks, BreaksBy, Breaks, IsKept, IsFirstBroken}
 use Rattle.tagset_tool.specs.Plain.{is_plain, IsPlain, IsPlainIfAny}
 use Rattle.tagset_tool.specs.Reached.{IsReached}
 use Rattle.tagset_tool.specs.Verdicts.{meant}
 use Rattle.tagset_tool.specs.Checks.{text_cause, declared, holds_name, fits_name, Listed, IsFine, IsFineNamed, FirstBreak}
-use Rattle.decl_set.specs.Breaks as cause
+use Rattle.plain_set.specs.Breaks as cause
 use Rattle.tagset_tool.proofs.Documents.{empty_meets, leaf, leaf_valid, leaf_document, IsClosed, IsNamedIn, below_named, below_fine, children_listed, children_lead, children_documented, fine_meets, meets_some, reached_useful, reached_separates}
 use Rattle.tagset_tool.proofs.Names.{bytes_same, or_other, and_left, and_right, all_among, led_leads, reached_of, declared_in}
 

@@ -5,7 +5,7 @@ use Rattle.jats_fault.specs.Table.{head}
 use Rattle.jats_fault.proofs.Heads.{head_digits}
 use Rattle.jats_io.specs.Causes.{HasCause}
 use Rattle.content_models.specs.declared.content.Content.{Content}
-use Rattle.decl_set.specs.Declarations.{Declarations}
+use Rattle.plain_set.specs.Declarations.{Declarations}
 use Rattle.tagset_tool.specs.declared.comparison.Verdict.{Verdict}
 use Rattle.tagset_tool.specs.declared.comparison.Verdict.TheVariants.{Subset, Above}
 use Rattle.tagset_tool.specs.declared.lines.Refusal.{Refusal}

@@ -7,16 +7,16 @@ use Rattle.jats_chars.specs.Names.{is_name}
 use Rattle.content_models.specs.declared.content.Content.{Content}
 use Rattle.content_models.specs.declared.content.Content.TheVariants.{Empty, Any, Mixed, Children}
 use Rattle.content_models.specs.Model.{among}
-use Rattle.decl_set.specs.Declarations.{Declarations, content_in}
+use Rattle.plain_set.specs.Declarations.{Declarations, content_in}
 use Rattle.document_trees.specs.Trees.{Items, nothing, element, chars, comment, pi, Node, IsDocument, IsWellMade, EachBelow, child_names}
-use Rattle.decl_set.specs.Validity.{IsValid, IsSeparating, Meets, MeetsContent}
+use Rattle.plain_set.specs.Validity.{IsValid, IsSeparating, Meets, MeetsContent}
 use Rattle.document_trees.specs.Trees.{stands_below}
-use Rattle.decl_set.specs.Validity.{HasDocument, IsUseful}
-use Rattle.decl_set.specs.Breaks.{Cause, ContentBreaks, BreaksBy, Breaks}
+use Rattle.plain_set.specs.Validity.{HasDocument, IsUseful}
+use Rattle.plain_set.specs.Breaks.{Cause, ContentBreaks, BreaksBy, Breaks}
 use Rattle.tagset_tool.specs.Plain.{IsPlainIfAny}
 use Rattle.tagset_tool.specs.Reached.{Around, IsReached}
 use Rattle.tagset_tool.specs.Checks.{IsFine}
-use Rattle.decl_set.specs.Breaks as cause
+use Rattle.plain_set.specs.Breaks as cause
 
 -- an element with nothing in it
 abbrev pub leaf : List ℕ → Node

@@ -6,7 +6,7 @@ use Rattle.std.proofs.lemmas.Bool.Decides.{nat_tests}
 use Rattle.jats_io.specs.Loads.{held, Loads}
 use Rattle.jats_io.specs.declared.store.Loaded.{Loaded}
 use Rattle.jats_io.specs.declared.store.Loaded.TheVariants.{Bytes}
-use Rattle.decl_set.specs.Declarations.{Declarations}
+use Rattle.plain_set.specs.Declarations.{Declarations}
 use Rattle.tagset_tool.specs.Reading.{parsed, refused_at, found, set_of}
 use Rattle.tagset_tool.specs.Outcomes.{Reads}
 use Rattle.tagset_tool.specs.declared.read.ReadFault.{ReadFault}

@@ -3,13 +3,13 @@ use Rattle.std.proofs.Common.{◌≡◌, ◌∙◌, ℕ, List, [], ◌∷◌, �
 use Rattle.std.specs.Prelude.{Option, Result}
 use Rattle.std.specs.List.{AllByRecursion}
 use Rattle.content_models.specs.declared.content.Content.{Content}
-use Rattle.decl_set.specs.Declarations.{Declarations, content_in}
-use Rattle.decl_set.specs.Breaks.{Cause, IsKept, IsFirstBroken, Breaks, BreaksBy}
+use Rattle.plain_set.specs.Declarations.{Declarations, content_in}
+use Rattle.plain_set.specs.Breaks.{Cause, IsKept, IsFirstBroken, Breaks, BreaksBy}
 use Rattle.tagset_tool.specs.Verdicts.{IsVerdict, meant}
 use Rattle.tagset_tool.specs.Output.{Files, Asked, asked, OverRoot, OverSecond, OverFirst, OverAsked, IsOutput, root_in, verdict_status, verdict_lines}
 use Rattle.tagset_tool.specs.Reading.{set_of}
 use Rattle.tagset_tool.specs.declared.lines.Refusal.{Refusal}
-use Rattle.decl_set.specs.Breaks as cause
+use Rattle.plain_set.specs.Breaks as cause
 use Rattle.tagset_tool.specs.declared.comparison.Cause.{Cause as Given}
 use Rattle.tagset_tool.specs.declared.comparison.Cause.TheVariants as given
 use Rattle.tagset_tool.specs.declared.comparison.BrokenDecl.{BrokenDecl}

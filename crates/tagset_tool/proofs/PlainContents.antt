@@ -13,8 +13,8 @@ use Rattle.content_models.proofs.Contents.{content_sound, content_complete}
 use Rattle.content_models.proofs.Exact.{parses_spelled}
 use Rattle.content_models.proofs.Sound.{if_some}
 use Rattle.jats_chars.specs.Names.{is_name}
-use Rattle.decl_set.specs.Declarations.{Declarations, none_declared}
-use Rattle.decl_set.specs.Declarations.{Element as Declared}
+use Rattle.plain_set.specs.Declarations.{Declarations, none_declared}
+use Rattle.plain_set.specs.Declarations.{Element as Declared}
 use Rattle.tagset_tool.specs.declared.scan.Element.{Element}
 use Rattle.tagset_tool.specs.Spaces.{spaces, trimmed}
 use Rattle.tagset_tool.specs.Reading.{content_after, with_content, named, spaces_after, element_of, with_length, with_end, declared_at, fits, with_declared, first_item, reads, checked, parsed}

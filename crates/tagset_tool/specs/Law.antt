@@ -1,8 +1,8 @@
 -- What the first line of an output says of the documents.
 use Rattle.std.specs.Prelude.{◌≡◌, ℕ, ◌⊎◌, List, Some, Ok, IsSome}
-use Rattle.decl_set.specs.Declarations.{Declarations}
+use Rattle.plain_set.specs.Declarations.{Declarations}
 use Rattle.document_trees.specs.Trees.{Node}
-use Rattle.decl_set.specs.Validity.{IsSeparating, IsSubset}
+use Rattle.plain_set.specs.Validity.{IsSeparating, IsSubset}
 use Rattle.tagset_tool.specs.Output.{Files, Asked, asked, IsOutput, root_in}
 use Rattle.tagset_tool.specs.Reading.{set_of}
 

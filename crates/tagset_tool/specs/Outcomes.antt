@@ -1,6 +1,6 @@
 -- What a call that reads answers.
 use Rattle.std.specs.Prelude.{◌≡◌, Result, Ok, Err}
-use Rattle.decl_set.specs.Declarations.{Declarations}
+use Rattle.plain_set.specs.Declarations.{Declarations}
 use Rattle.tagset_tool.specs.declared.lines.Refusal.{Refusal}
 use Rattle.tagset_tool.specs.declared.lines.Refusal.TheVariants.{ModuleAbsent, FormUnbuilt, RootUndeclared}
 use Rattle.tagset_tool.specs.declared.read.ReadFault.{ReadFault}

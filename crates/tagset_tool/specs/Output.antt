@@ -2,7 +2,7 @@
 use Rattle.std.specs.Prelude.{◌≡◌, ℕ, ◌==◌, ◌&&◌, List, [], ◌∷◌, ◌++◌, length, Option, Some, None, Result, Ok, Err, bytes_eq, codes, encode_utf8_all, slice_index_or, if◌then◌else◌}
 use Rattle.jats_chars.specs.Names.{is_name}
 use Rattle.content_models.specs.declared.content.Content.{Content}
-use Rattle.decl_set.specs.Declarations.{Declarations, content_in}
+use Rattle.plain_set.specs.Declarations.{Declarations, content_in}
 use Rattle.tagset_tool.specs.declared.comparison.Cause.{Cause}
 use Rattle.tagset_tool.specs.declared.comparison.Cause.TheVariants as cause
 use Rattle.tagset_tool.specs.declared.comparison.BrokenDecl.{BrokenDecl}
@@ -12,7 +12,7 @@ use Rattle.tagset_tool.specs.declared.lines.Refusal.{Refusal}
 use Rattle.tagset_tool.specs.declared.lines.Refusal.TheVariants.{RootUndeclared}
 use Rattle.tagset_tool.specs.Lines.{refusal_line}
 use Rattle.tagset_tool.specs.Reading.{set_of}
-use Rattle.decl_set.specs.Validity.{HasDocument}
+use Rattle.plain_set.specs.Validity.{HasDocument}
 use Rattle.tagset_tool.specs.Verdicts.{IsVerdict}
 
 abbrev pub Files : Type 0

@@ -5,7 +5,7 @@ use Rattle.content_models.specs.declared.content.Content.{Content}
 use Rattle.content_models.specs.declared.content.Content.TheVariants.{Empty, Any, Mixed, Children}
 use Rattle.content_models.specs.Proper.{is_proper}
 use Rattle.content_models.specs.Reading.{content_of}
-use Rattle.decl_set.specs.Declarations.{Declarations}
+use Rattle.plain_set.specs.Declarations.{Declarations}
 
 -- whether a content is EMPTY or mixed
 abbrev pub is_plain : Content → Bool

@@ -7,7 +7,7 @@ use Rattle.jats_io.specs.Loads.{held}
 use Rattle.content_models.specs.declared.content.Content.{Content}
 use Rattle.tagset_tool.specs.Plain.{plain_content}
 use Rattle.tagset_tool.specs.Spaces.{spaces, trimmed}
-use Rattle.decl_set.specs.Declarations.{Declarations, content_in, none_declared}
+use Rattle.plain_set.specs.Declarations.{Declarations, content_in, none_declared}
 use Rattle.tagset_tool.specs.declared.scan.Element.{Element}
 use Rattle.tagset_tool.specs.declared.lines.Refusal.{Refusal}
 use Rattle.tagset_tool.specs.declared.lines.Refusal.TheVariants.{ModuleAbsent, FormUnbuilt}

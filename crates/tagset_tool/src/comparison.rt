@@ -8,15 +8,15 @@ ghost use Rattle.content_models.specs.Model.{among};
 ghost use Rattle.tagset_tool.specs.Checks as spec;
 ghost use Rattle.tagset_tool.specs.Plain.{is_plain, IsPlain};
 ghost use Rattle.tagset_tool.specs.Reached.{IsReached};
-ghost use Rattle.decl_set.specs.Declarations.{content_in};
-ghost use Rattle.decl_set.specs.Validity.{HasDocument};
-ghost use Rattle.decl_set.specs.Breaks.{Cause as Reason, BreaksBy, Breaks};
+ghost use Rattle.plain_set.specs.Declarations.{content_in};
+ghost use Rattle.plain_set.specs.Validity.{HasDocument};
+ghost use Rattle.plain_set.specs.Breaks.{Cause as Reason, BreaksBy, Breaks};
 ghost use Rattle.tagset_tool.specs.Verdicts.{IsVerdict, meant};
 
 use crate::name_set::NameSet;
 use content_models::Content;
-use decl_set::DeclSet;
 use jats_chars::{Name, NoMemory};
+use plain_set::DeclSet;
 use std::alloc::Global;
 
 /// Why an element of the first set is not one of the second.

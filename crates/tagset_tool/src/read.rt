@@ -4,16 +4,16 @@ ghost use Rattle.std.specs.Prelude.{◌≡◌, ◌++◌, ◌∷◌, ◌+◌, ◌
 ghost use Rattle.std.specs.Bool.{OnTrue};
 ghost use Rattle.tagset_tool.specs.Reading as spec;
 ghost use Rattle.jats_io.specs.Causes.{HasCause};
-ghost use Rattle.decl_set.specs.Declarations.{none_declared};
+ghost use Rattle.plain_set.specs.Declarations.{none_declared};
 ghost use Rattle.tagset_tool.specs.Plain.{IsPlain};
 ghost use Rattle.tagset_tool.specs.Outcomes.{LoadFailed, IsAbsence, Reads};
 
 use crate::lines::Refusal;
 use crate::scan::{Element, declared_at};
 use crate::space::spaces;
-use decl_set::{DeclFault, DeclSet};
 use jats_chars::{NoMemory, Text};
 use jats_io::{LoadFault, Loaded, Store};
+use plain_set::{DeclFault, DeclSet};
 use std::alloc::Global;
 
 #[derive(Debug, Drop)]

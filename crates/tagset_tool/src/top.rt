@@ -4,16 +4,16 @@ ghost use Rattle.std.specs.Prelude.{◌≡◌, ◌≤◌, ◌↔◌, ◌⊎◌, 
 ghost use Rattle.jats_io.specs.Causes.{HasCause, Rose};
 ghost use Rattle.tagset_tool.specs.Output as spec;
 ghost use Rattle.tagset_tool.specs.Reading.{set_of};
-ghost use Rattle.decl_set.specs.Declarations.{content_in};
+ghost use Rattle.plain_set.specs.Declarations.{content_in};
 ghost use Rattle.tagset_tool.specs.Plain.{IsPlain};
 ghost use Rattle.tagset_tool.specs.Runs.{IsAnswered, IsLoadFailed, AnswersAbsence, WritesAbsence, StopsAs, Runs};
 
 use crate::comparison::{BrokenDecl, Cause, Verdict, compare};
 use crate::lines::{Refusal, refusal_line, shown};
 use crate::read::{ReadFault, read_set};
-use decl_set::DeclSet;
 use jats_chars::{Name, NoMemory, Text};
 use jats_io::{Sink, Store, write_all};
+use plain_set::DeclSet;
 use std::alloc::Global;
 
 /// A status, and the whole output.

@@ -3,7 +3,8 @@ use Rattle.std.specs.List.{list_any}
 use Rattle.content_models.specs.Model.{Chars, model}
 use Rattle.content_models.specs.Proper.{IsProper}
 use Rattle.position_automata.specs.Marked.{count}
-use Rattle.position_automata.specs.Places.{letters, nullable, lasts}
+use Rattle.position_automata.specs.Owed.{SamePairs}
+use Rattle.position_automata.specs.Places.{letters, nullable, lasts, pairs}
 use Rattle.position_automata.specs.Tables.{AreKeys}
 use Rattle.position_automata.proofs.Meaning.{length-letters}
 use Rattle.position_automata.proofs.Tabled.{model_table}
@@ -24,3 +25,7 @@ invariant_of-result c =
     (c.in_ok-copy-in-Ok.ensures ∙ c.requires.is) (subst IsProper (sym c.in_ok-copy-in-Ok.ensures) c.requires.proper) c.requires.small n
     (subst (λ (x : List Chars). AreKeys x c.in_ok-names.names.keys) c.as_slice-2.ensures c.in_ok-names.ensures)
     c.in-Ok.ensures f
+
+pub model_rows-requires-clause-found : goal.model_rows-requires-clause-found
+model_rows-requires-clause-found c =
+    subst (λ (k : List (ℕ × ℕ)). SamePairs k (pairs (model c.args.part.now))) (sym c.as_slice-4.ensures.value) c.in_ok-ends.ensures.1

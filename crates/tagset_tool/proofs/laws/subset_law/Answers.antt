@@ -1,7 +1,7 @@
 use Rattle.std.proofs.Common.{◌≡◌, ◌∙◌, ℕ, List, sym, subst, inl, inr, Some, None, IsSome}
 use Rattle.std.specs.Prelude.{Option, Result}
 use Rattle.content_models.specs.declared.content.Content.{Content}
-use Rattle.decl_set.specs.Declarations.{Declarations}
+use Rattle.plain_set.specs.Declarations.{Declarations}
 use Rattle.tagset_tool.specs.Verdicts.{IsVerdict}
 use Rattle.tagset_tool.specs.Output.{Asked, OverRoot, OverSecond, OverFirst, OverAsked, root_in, verdict_status}
 use Rattle.tagset_tool.specs.Reading.{set_of}

@@ -1,5 +1,5 @@
 use Rattle.std.proofs.Common.{◌≡◌, ℕ, ◌≤◌, ◌-◌, length, drop}
-use Rattle.decl_set.specs.Declarations.{none_declared}
+use Rattle.plain_set.specs.Declarations.{none_declared}
 use Rattle.tagset_tool.specs.Reading.{reads}
 use Rattle.tagset_tool.proofs.read.read_items.Given as goal
 

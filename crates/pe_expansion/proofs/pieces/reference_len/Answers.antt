@@ -1,7 +1,0 @@
-use Rattle.std.proofs.Common.{◌∙◌, ap}
-use Rattle.dtd_scanner.specs.Scanning.{name_len}
-use Rattle.pe_expansion.proofs.References.{reference_name}
-use Rattle.pe_expansion.proofs.pieces.reference_len.Goals as goal
-
-pub returns-then-starts_with-clause-name : goal.returns-then-starts_with-clause-name
-returns-then-starts_with-clause-name c = reference_name c.args.text.now c.name_len-length.result (c.name_len-length.ensures.value ∙ ap name_len c.split_at.ensures.back) c.if-length-gt0.true

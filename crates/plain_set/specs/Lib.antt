@@ -1,0 +1,5 @@
+pub mod Breaks
+pub mod Declarations
+pub mod Declares
+pub mod DeclaredBy
+pub mod Validity
