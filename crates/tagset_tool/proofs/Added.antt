@@ -6,7 +6,8 @@ use Rattle.std.proofs.lemmas.Grind.{common_steps}
 use Rattle.content_models.specs.declared.content.Content.{Content}
 use Rattle.content_models.specs.declared.content.Content.TheVariants.{Mixed}
 use Rattle.content_models.specs.Model.{among}
-use Rattle.plain_set.specs.Declarations.{Declarations, content_in}
+use Rattle.decl_set.specs.Declarations.{Declarations, content_in, attributes_in}
+use Rattle.tagset_tool.specs.Plain.{IsPlainAt}
 use Rattle.tagset_tool.specs.Reached.{IsReached}
 use Rattle.tagset_tool.specs.Checks.{declared, led, closes, listed_in, Listed, IsListed, AddsListed, AddsChildren, content_at}
 use Rattle.tagset_tool.proofs.Documents.{child_reached}
@@ -106,10 +107,10 @@ pub record Gathers (first : Declarations) (root : List ℕ) (names : List (List 
   pub closed : IsTrue (list_all (λ e. closes first names (content_in first e)) (take at names))
 
 module _ (first : Declarations) (root : List ℕ) where
-  reached_children : (e : List ℕ) (more : List (List ℕ)) → IsReached first root e → AllByRecursion (IsListed first (content_in first e)) more → AllByRecursion (IsReached first root) more
-  reached_children e [] reached all = tt
-  reached_children e (n ∷ ns) reached all =
-      (child_reached first root e n all.0.listed reached all.0.content_is all.0.child.at all.0.child.named, reached_children e ns reached all.1)
+  reached_children : (e : List ℕ) (more : List (List ℕ)) → IsReached first root e → attributes_in first e ≡ [] → AllByRecursion (IsListed first (content_in first e)) more → AllByRecursion (IsReached first root) more
+  reached_children e [] reached bare all = tt
+  reached_children e (n ∷ ns) reached bare all =
+      (child_reached first root e n all.0.listed reached bare all.0.content_is all.0.child.at all.0.child.named, reached_children e ns reached bare all.1)
 
   closed_kept : (names more xs : List (List ℕ)) → IsTrue (list_all (λ e. closes first names (content_in first e)) xs) → IsTrue (list_all (λ e. closes first (names ++ more) (content_in first e)) xs)
   closed_kept names more [] all = refl
@@ -135,8 +136,8 @@ module _ (first : Declarations) (root : List ℕ) where
   take_front names more at short = grind (arith, common_steps)
 
   -- the children of the next one are added
-  pub gathers_next : (names new : List (List ℕ)) (at : ℕ) → Gathers first root names at → at < length names → AddsChildren first (content_at first (slice_get names at)) names new → Gathers first root new (suc at)
-  gathers_next names new at so_far lt adds =
+  pub gathers_next : (names new : List (List ℕ)) (at : ℕ) → ((n : List ℕ) → IsPlainAt first n) → Gathers first root names at → at < length names → AddsChildren first (content_at first (slice_get names at)) names new → Gathers first root new (suc at)
+  gathers_next names new at plain so_far lt adds =
       let place = at_place names at lt in
       let P : Option (List ℕ) → Type 0 = λ o. AddsChildren first (content_at first o) names new in
       let a : AddsChildren first (content_in first place.0) names new = subst P place.1 adds in
@@ -148,7 +149,7 @@ module _ (first : Declarations) (root : List ℕ) where
       subst R (sym (take_front names a.more at so_far.within)) (closed_kept names a.more (take at names) so_far.closed) in
       subst Q (sym a.grown) (record {
         within = omega (arith, length-append names a.more);
-        reached = all_join (IsReached first root) names a.more so_far.reached (reached_children place.0 a.more reach a.children);
+        reached = all_join (IsReached first root) names a.more so_far.reached (reached_children place.0 a.more reach (plain place.0).bare a.children);
         from_root = among_more names a.more root so_far.from_root;
         closed = all_more (λ e. closes first (names ++ a.more) (content_in first e)) (names ++ a.more) at place.0 before (get_front names a.more at place.0 place.1) (subst S a.grown a.leads);
       })

@@ -1,25 +1,28 @@
 -- Declarations that break, and the documents that show it.
-use Rattle.std.proofs.Common.{◌≡◌, ℕ, Bool, true, false, cond, ◌||◌, ◌&&◌, not, List, [], ◌∷◌, Some, None, refl, sym, subst, IsTrue, IsSome, is_some, bytes_eq, MatchOption}
-use Rattle.std.specs.Prelude.{Option}
+use Rattle.std.proofs.Common.{◌≡◌, ℕ, Bool, true, false, cond, ◌||◌, ◌&&◌, not, List, [], ◌∷◌, Some, None, refl, sym, ap, subst, IsTrue, IsSome, is_some, bytes_eq, MatchOption}
+use Rattle.std.specs.Prelude.{Option, unwrap_or}
 use Rattle.std.specs.List.{AllByRecursion, list_all}
 use Rattle.std.specs.Map.{lookup}
 use Rattle.jats_chars.specs.Names.{is_name}
 use Rattle.content_models.specs.declared.content.Content.{Content}
 use Rattle.content_models.specs.declared.content.Content.TheVariants.{Empty, Any, Mixed, Children}
 use Rattle.content_models.specs.Model.{Derives, among}
-use Rattle.plain_set.specs.Declarations.{Declarations, Element, content_in}
+use Rattle.attlist_merge.specs.Lists.{Definitions}
+use Rattle.attlist_merge.specs.Oddness.{odd_of}
+use Rattle.attlist_merge.specs.declared.odd.OddAtt.{OddAtt}
+use Rattle.decl_set.specs.Declarations.{Declarations, Element, content_in, attributes_in}
 use Rattle.document_trees.specs.Trees.{Items, nothing, element, chars, comment, pi, Node, IsWellMade, EachBelow, EachNode, child_names, elements_alone, are_items}
-use Rattle.plain_set.specs.Validity.{IsValid, IsSeparating, IsSubset, Meets, MeetsContent, TextAllowed}
+use Rattle.decl_set.specs.Validity.{IsValid, IsSeparating, IsSubset, Meets, MeetsContent, TextAllowed}
 use Rattle.content_models.specs.Kinds.{text_kind}
 use Rattle.document_trees.specs.Trees.{stands_below}
-use Rattle.plain_set.specs.Validity.{HasDocument, IsUseful}
-use Rattle.plain_set.specs.Breaks.{Cause, ContentBreaks, BreaksBy, Breaks, IsKept, IsFirstBroken}
-use Rattle.tagset_tool.specs.Plain.{is_plain, IsPlain, IsPlainIfAny}
+use Rattle.decl_set.specs.Validity.{HasDocument, IsUseful}
+use Rattle.decl_set.specs.Breaks.{Cause, ContentBreaks, BreaksBy, Breaks, IsKept, IsFirstBroken, IsOdd}
+use Rattle.tagset_tool.specs.Plain.{is_plain, IsPlain, IsPlainIfAny, IsPlainAt}
 use Rattle.tagset_tool.specs.Reached.{IsReached}
 use Rattle.tagset_tool.specs.Verdicts.{meant}
 use Rattle.tagset_tool.specs.Checks.{text_cause, declared, holds_name, fits_name, Listed, IsFine, IsFineNamed, FirstBreak}
-use Rattle.plain_set.specs.Breaks as cause
-use Rattle.tagset_tool.proofs.Documents.{empty_meets, leaf, leaf_valid, leaf_document, IsClosed, IsNamedIn, below_named, below_fine, children_listed, children_lead, children_documented, fine_meets, meets_some, reached_useful, reached_separates}
+use Rattle.decl_set.specs.Breaks as cause
+use Rattle.tagset_tool.proofs.Documents.{meets_bare, bare_meets, breaks_bare, empty_meets, leaf, leaf_valid, leaf_document, IsClosed, IsNamedIn, below_named, below_fine, children_listed, children_lead, children_documented, fine_meets, meets_some, reached_useful, reached_separates}
 use Rattle.tagset_tool.proofs.Names.{bytes_same, or_other, and_left, and_right, all_among, led_leads, reached_of, declared_in}
 
 and_true : (a : Bool) → IsTrue a → IsTrue (a && true)
@@ -27,7 +30,7 @@ and_true true t = refl
 and_true false t = cc
 
 documented_declared : (first : Declarations) (x : List ℕ) → HasDocument first x → IsTrue (declared first x)
-documented_declared first x d = let P : List ℕ → Type 0 = λ y. IsTrue (declared first y) in subst P d.2.0 (meets_some (content_in first d.0.name) d.0.atts d.0.items d.2.1.0)
+documented_declared first x d = let P : List ℕ → Type 0 = λ y. IsTrue (declared first y) in subst P d.2.0 (meets_some (content_in first d.0.name) (attributes_in first d.0.name) d.0.atts d.0.items d.2.1.0)
 
 abbrev AreHeld : Content → List (List ℕ) → Type 0
 AreHeld b names = AllByRecursion (λ x. IsTrue (holds_name b x)) names
@@ -58,7 +61,7 @@ not_held true h e some = e
 not_held false h e some = cc
 
 -- a listed name that does not fit breaks the content
-pub listed_breaks : (first : Declarations) (listed : List (List ℕ)) (b : Content) (n : List ℕ) → IsTrue (is_plain b) → IsPlainIfAny (content_in first n) → Listed first listed n → fits_name first b n ≡ false → ContentBreaks first (Mixed listed) b
+pub listed_breaks : (first : Declarations) (listed : List (List ℕ)) (b : Content) (n : List ℕ) → IsTrue (is_plain b) → IsPlainAt first n → Listed first listed n → fits_name first b n ≡ false → ContentBreaks first (Mixed listed) b
 listed_breaks first listed b n plain leaf_plain at misfit =
     (n ∷ [], ((leaf n, leaf_document n at.named, leaf_valid first n at.some leaf_plain), tt), and_true (among listed n) at.at, by b plain (not_held (declared first n) (holds_name b n) misfit at.some))
   where
@@ -68,10 +71,18 @@ listed_breaks first listed b n plain leaf_plain at misfit =
     by (Children part) plain misfit d = cc
     by (Mixed ms) plain misfit d = let h : IsTrue (among ms n) = and_left (among ms n) true d in cc
 
-pub mixed_fine : (first : Declarations) (listed ms : List (List ℕ)) → IsTrue (list_all (fits_name first (Mixed ms)) listed) → (k : Cause) → BreaksBy first (Some (Mixed listed)) (Some (Mixed ms)) k → ⊥
+-- no attribute is odd where none is declared
+none_odd : (name : List ℕ) → IsOdd [] [] name → ⊥
+none_odd name odd = by odd.0 odd.1
+  where
+    by : (o : OddAtt) → odd_of [] [] ≡ Some o → ⊥
+    by o e = cc
+
+pub mixed_fine : (first : Declarations) (listed ms : List (List ℕ)) → IsTrue (list_all (fits_name first (Mixed ms)) listed) → (k : Cause) → BreaksBy first (Some (Mixed listed)) (Some (Mixed ms)) [] [] k → ⊥
 mixed_fine first listed ms fits cause.undeclared breaks = breaks
 mixed_fine first listed ms fits cause.content breaks = fits_keeps first listed (Mixed ms) refl fits breaks
 mixed_fine first listed ms fits cause.text breaks = breaks.1
+mixed_fine first listed ms fits (cause.attribute name) breaks = none_odd name breaks.2
 
 -- items with these children
 record Forest (first : Declarations) (names : List (List ℕ)) : Type 0 where
@@ -97,7 +108,7 @@ forest first (x ∷ xs) documented =
     }
 
 -- an element that breaks has a document that separates
-module _ (first second : Declarations) (e : List ℕ) (named : IsTrue (is_name e)) (p : IsPlainIfAny (content_in first e)) (q : IsPlainIfAny (content_in second e)) where
+module _ (first second : Declarations) (e : List ℕ) (named : IsTrue (is_name e)) (p : IsPlainAt first e) (q : IsPlainAt second e) where
   abbrev holding : Items → Node
   holding items = record { name = e; atts = []; items = items }
 
@@ -105,13 +116,19 @@ module _ (first second : Declarations) (e : List ℕ) (named : IsTrue (is_name e
   Outcome = (node : Node) × IsSeparating first second e node
 
   -- items that meet the one content and not the other
-  shown : (a b : Option Content) → content_in first e ≡ a → content_in second e ≡ b → (items : Items) → IsTrue (are_items items) → EachBelow IsWellMade items → EachBelow (Meets first) items → MeetsContent a [] items
-      → (MeetsContent b [] items → ⊥) → Outcome
+  shown : (a b : Option Content) → content_in first e ≡ a → content_in second e ≡ b → (items : Items) → IsTrue (are_items items) → EachBelow IsWellMade items → EachBelow (Meets first) items → MeetsContent a [] [] items
+      → (MeetsContent b [] [] items → ⊥) → Outcome
   shown a b is other items white well below meets fails =
-      let P : Option Content → Type 0 = λ o. MeetsContent o [] items in
-      (holding items, ((record { named = named; attributes = refl; beside = white }, well), (refl, (subst P (sym is) meets, below)), λ valid. fails (subst P other valid.1.0)))
+      let P : Option Content → Type 0 = λ o. MeetsContent o [] [] items in (
+        holding items,
+        (
+          (record { named = named; attributes = refl; beside = white }, well),
+          (refl, (bare_meets first e [] items p.bare (subst P (sym is) meets), below)),
+          λ valid. fails (subst P other (meets_bare second e [] items q.bare valid.1.0)),
+        ),
+      )
 
-  text_shown : (a b : Content) → content_in first e ≡ Some a → content_in second e ≡ Some b → IsTrue (is_plain a) → IsTrue (is_plain b) → BreaksBy first (Some a) (Some b) cause.text → Outcome
+  text_shown : (a b : Content) → content_in first e ≡ Some a → content_in second e ≡ Some b → IsTrue (is_plain a) → IsTrue (is_plain b) → BreaksBy first (Some a) (Some b) [] [] cause.text → Outcome
   text_shown Empty b is other s t breaks = absurd breaks.1
   text_shown Any b is other s t breaks = cc
   text_shown (Children part) b is other s t breaks = cc
@@ -133,17 +150,19 @@ module _ (first second : Declarations) (e : List ℕ) (named : IsTrue (is_name e
       text (Mixed ns) items s alone = tt
       text (Children part) items s alone = cc
 
-  breaks_shown : (a b : Option Content) → content_in first e ≡ a → content_in second e ≡ b → IsPlainIfAny a → IsPlainIfAny b → (k : Cause) → BreaksBy first a b k → Outcome
+  breaks_shown : (a b : Option Content) → content_in first e ≡ a → content_in second e ≡ b → IsPlainIfAny a → IsPlainIfAny b → (k : Cause) → BreaksBy first a b [] [] k → Outcome
   breaks_shown None b is other s t k breaks = absurd breaks
   breaks_shown (Some a) None is other s t cause.undeclared breaks = shown (Some a) None is other nothing refl tt tt (empty_meets (Some a) refl s) (λ m. m)
   breaks_shown (Some a) None is other s t cause.content breaks = absurd breaks
   breaks_shown (Some a) None is other s t cause.text breaks = absurd breaks
+  breaks_shown (Some a) None is other s t (cause.attribute name) breaks = absurd breaks
   breaks_shown (Some a) (Some b) is other s t cause.undeclared breaks = absurd breaks
   breaks_shown (Some a) (Some b) is other s t cause.content breaks = content_shown a b is other s breaks
   breaks_shown (Some a) (Some b) is other s t cause.text breaks = text_shown a b is other s t breaks
+  breaks_shown (Some a) (Some b) is other s t (cause.attribute name) breaks = absurd (none_odd name breaks.2)
 
   pub breaks_separates : (k : Cause) → Breaks first second e k → (node : Node) × IsSeparating first second e node
-  breaks_separates k breaks = breaks_shown (content_in first e) (content_in second e) refl refl p q k breaks
+  breaks_separates k breaks = breaks_shown (content_in first e) (content_in second e) refl refl p.content q.content k (breaks_bare first second e k p.bare q.bare breaks)
 
 -- what stands in a document of closed names is one of them
 stands_named : (names : List (List ℕ)) (e : List ℕ) (items : Items) → EachBelow (IsNamedIn names) items → IsTrue (stands_below e items) → IsTrue (among names e)
@@ -160,14 +179,14 @@ stands_named names e (comment text later) named stands = stands_named names e la
 stands_named names e (pi target body later) named stands = stands_named names e later named stands
 
 -- each node of a document of the root is among the closed names
-nodes_named : (first : Declarations) (root : List ℕ) (names : List (List ℕ)) (node : Node) → ((n : List ℕ) → IsPlainIfAny (content_in first n)) → IsClosed first names → IsTrue (among names root) → IsValid first root node → EachNode (IsNamedIn names) node
+nodes_named : (first : Declarations) (root : List ℕ) (names : List (List ℕ)) (node : Node) → ((n : List ℕ) → IsPlainAt first n) → IsClosed first names → IsTrue (among names root) → IsValid first root node → EachNode (IsNamedIn names) node
 nodes_named first root names node plain closed at valid =
     let P : List ℕ → Type 0 = λ y. IsTrue (among names y) in
     let here : IsTrue (among names node.name) = subst P (sym valid.0) at in
-    let children = children_listed (content_in first node.name) node.atts node.items (plain node.name) valid.1.0 in
+    let children = children_listed (content_in first node.name) (attributes_in first node.name) node.atts node.items (plain node.name).content valid.1.0 in
     (here, below_named first names children.0 node.items plain closed (children_lead first names node.name children.0 closed here children.2) children.1 valid.1.1)
 
-pub useful_named : (first : Declarations) (root : List ℕ) (names : List (List ℕ)) (e : List ℕ) → ((n : List ℕ) → IsPlainIfAny (content_in first n)) → IsClosed first names → IsTrue (among names root) → IsUseful first root e → IsTrue (among names e)
+pub useful_named : (first : Declarations) (root : List ℕ) (names : List (List ℕ)) (e : List ℕ) → ((n : List ℕ) → IsPlainAt first n) → IsClosed first names → IsTrue (among names root) → IsUseful first root e → IsTrue (among names e)
 useful_named first root names e plain closed at useful = by (bytes_eq e useful.0.name) refl
   where
     by : (b : Bool) → bytes_eq e useful.0.name ≡ b → IsTrue (among names e)
@@ -175,7 +194,7 @@ useful_named first root names e plain closed at useful = by (bytes_eq e useful.0
     by false other = stands_named names e useful.0.items (nodes_named first root names useful.0 plain closed at useful.2).1 (or_other (bytes_eq e useful.0.name) (stands_below e useful.0.items) useful.3 other)
 
 -- the names do not break where no declared one does
-fine_undeclared : (first second : Declarations) (e : List ℕ) (a : Option Content) → is_some a ≡ false → (k : Cause) → BreaksBy first a (content_in second e) k → ⊥
+fine_undeclared : (first second : Declarations) (e : List ℕ) (a : Option Content) → is_some a ≡ false → (k : Cause) → BreaksBy first a (content_in second e) (attributes_in first e) (attributes_in second e) k → ⊥
 fine_undeclared first second e None none k breaks = breaks
 fine_undeclared first second e (Some a) none k breaks = cc
 
@@ -198,7 +217,7 @@ all_fine first second names e fine at = by (declared first e) refl
     by true some = fine_declared first second names first.elements e fine some at
     by false none = fine_undeclared first second e (content_in first e) none
 
-pub no_break_subset : (first second : Declarations) (root : List ℕ) (names : List (List ℕ)) → ((n : List ℕ) → IsPlainIfAny (content_in first n)) → ((n : List ℕ) → IsPlainIfAny (content_in second n)) → IsClosed first names → IsTrue (among names root) → AllByRecursion (IsFineNamed first second names) first.elements → IsSubset first second root
+pub no_break_subset : (first second : Declarations) (root : List ℕ) (names : List (List ℕ)) → ((n : List ℕ) → IsPlainAt first n) → ((n : List ℕ) → IsPlainAt second n) → IsClosed first names → IsTrue (among names root) → AllByRecursion (IsFineNamed first second names) first.elements → IsSubset first second root
 no_break_subset first second root names p q closed at fine node separating =
     let valid = separating.1 in
     let named = nodes_named first root names node p closed at valid in
@@ -207,21 +226,21 @@ no_break_subset first second root names p q closed at fine node separating =
     separating.2 (
       valid.0,
       (
-        fine_meets first (content_in first node.name) (content_in second node.name) node.atts node.items (p node.name) (q node.name) (all_fine first second names node.name fine named.0) documented valid.1.0,
+        fine_meets first second node.name node.atts node.items (p node.name) (q node.name) (all_fine first second names node.name fine named.0) documented valid.1.0,
         below_fine first second names node.items p q (λ e t. all_fine first second names e fine t) well.1 named.1 valid.1.1,
       ),
     )
 
-kept_before : (first second : Declarations) (root : List ℕ) (names : List (List ℕ)) (es : List Element) → ((n : List ℕ) → IsPlainIfAny (content_in first n)) → IsClosed first names → IsTrue (among names root) → AllByRecursion (IsFineNamed first second names) es → AllByRecursion (IsKept first second root) es
+kept_before : (first second : Declarations) (root : List ℕ) (names : List (List ℕ)) (es : List Element) → ((n : List ℕ) → IsPlainAt first n) → IsClosed first names → IsTrue (among names root) → AllByRecursion (IsFineNamed first second names) es → AllByRecursion (IsKept first second root) es
 kept_before first second root names [] plain closed at fine = tt
 kept_before first second root names (e ∷ es) plain closed at fine =
     ((λ useful. fine.0 (useful_named first root names e.0 plain closed at useful)), kept_before first second root names es plain closed at fine.1)
 
-breaks_some : (first : Declarations) (a b : Option Content) (k : Cause) → BreaksBy first a b k → IsSome a
-breaks_some first None b k breaks = absurd breaks
-breaks_some first (Some a) b k breaks = refl
+breaks_some : (first : Declarations) (a b : Option Content) (list more : Definitions) (k : Cause) → BreaksBy first a b list more k → IsSome a
+breaks_some first None b list more k breaks = absurd breaks
+breaks_some first (Some a) b list more k breaks = refl
 
-pub break_above : (first second : Declarations) (root : List ℕ) (names : List (List ℕ)) (e : List ℕ) (k : Cause) → ((n : List ℕ) → IsPlainIfAny (content_in first n)) → ((n : List ℕ) → IsPlainIfAny (content_in second n)) → IsClosed first names → IsTrue (among names root) → AllByRecursion (IsReached first root) names → FirstBreak first second names e k
+pub break_above : (first second : Declarations) (root : List ℕ) (names : List (List ℕ)) (e : List ℕ) (k : Cause) → ((n : List ℕ) → IsPlainAt first n) → ((n : List ℕ) → IsPlainAt second n) → IsClosed first names → IsTrue (among names root) → AllByRecursion (IsReached first root) names → FirstBreak first second names e k
     → ((node : Node) × IsSeparating first second root node) × IsFirstBroken first second root e k
 break_above first second root names e k p q closed at reached first_break =
     let here = reached_of first root names e reached first_break.here in
@@ -233,7 +252,7 @@ break_above first second root names e k p q closed at reached first_break =
         after = first_break.after;
         place = first_break.place;
         kept = kept_before first second root names first_break.before p closed at first_break.fine;
-        useful = reached_useful first root e here (breaks_some first (content_in first e) (content_in second e) k first_break.breaks) (p e);
+        useful = reached_useful first root e here (breaks_some first (content_in first e) (content_in second e) (attributes_in first e) (attributes_in second e) k first_break.breaks) (p e);
         breaks = first_break.breaks;
       },
     )
@@ -244,11 +263,14 @@ plain_found [] n all = tt
 plain_found (x ∷ xs) n all =
     elim (bytes_eq n x.0) as (λ b. IsPlainIfAny (cond b (Some x.1) (lookup (bytes_eq n) xs))) [ true ↦ all.0 | false ↦ plain_found xs n all.1 ]
 
-pub plain_in : (set : Declarations) → IsPlain set → (n : List ℕ) → IsPlainIfAny (content_in set n)
-plain_in set all n = plain_found set.elements n all
+pub plain_in : (set : Declarations) → IsPlain set → (n : List ℕ) → IsPlainAt set n
+plain_in set all n = record {
+  content = plain_found set.elements n all.contents;
+  bare = ap (λ ls. unwrap_or (lookup (bytes_eq n) ls) []) all.lists;
+}
 
 -- EMPTY breaks in no plain content
-pub empty_fine : (first : Declarations) (b : Content) → IsTrue (is_plain b) → (k : Cause) → BreaksBy first (Some Empty) (Some b) k → ⊥
+pub empty_fine : (first : Declarations) (b : Content) → IsTrue (is_plain b) → (k : Cause) → BreaksBy first (Some Empty) (Some b) [] [] k → ⊥
 empty_fine first b plain cause.undeclared breaks = breaks
 empty_fine first b plain cause.content breaks = by b plain (let P : List (List ℕ) → Type 0 = λ names. Derives b names → ⊥ in subst P breaks.2 breaks.3)
   where
@@ -258,14 +280,15 @@ empty_fine first b plain cause.content breaks = by b plain (let P : List (List �
     by (Mixed listed) plain out = out refl
     by (Children part) plain out = cc
 empty_fine first b plain cause.text breaks = breaks.1
+empty_fine first b plain (cause.attribute name) breaks = none_odd name breaks.2
 
 -- where each listed name fits, only text may break the content
 pub text_decides : (first : Declarations) (listed : List (List ℕ)) (b : Content) → IsTrue (is_plain b) → IsTrue (list_all (fits_name first b) listed)
-    → MatchOption (text_cause b) ((k : Cause) → BreaksBy first (Some (Mixed listed)) (Some b) k → ⊥) (λ k. BreaksBy first (Some (Mixed listed)) (Some b) (meant k))
+    → MatchOption (text_cause b) ((k : Cause) → BreaksBy first (Some (Mixed listed)) (Some b) [] [] k → ⊥) (λ k. BreaksBy first (Some (Mixed listed)) (Some b) [] [] (meant k))
 text_decides first listed Empty plain fits = (fits_keeps first listed Empty refl fits, tt)
 text_decides first listed Any plain fits = cc
 text_decides first listed (Mixed ms) plain fits = mixed_fine first listed ms fits
 text_decides first listed (Children part) plain fits = cc
 
 pub plain_some : (set : Declarations) → IsPlain set → (n : List ℕ) (c : Content) → Some c ≡ content_in set n → IsTrue (is_plain c)
-plain_some set all n c is = subst IsPlainIfAny (sym is) (plain_in set all n)
+plain_some set all n c is = subst IsPlainIfAny (sym is) (plain_in set all n).content

@@ -7,30 +7,51 @@ use Rattle.jats_chars.specs.Names.{is_name}
 use Rattle.content_models.specs.declared.content.Content.{Content}
 use Rattle.content_models.specs.declared.content.Content.TheVariants.{Empty, Any, Mixed, Children}
 use Rattle.content_models.specs.Model.{among}
-use Rattle.plain_set.specs.Declarations.{Declarations, content_in}
+use Rattle.attlist_merge.specs.Lists.{Definitions}
+use Rattle.decl_set.specs.Declarations.{Declarations, content_in, attributes_in}
 use Rattle.document_trees.specs.Trees.{Items, nothing, element, chars, comment, pi, Node, IsDocument, IsWellMade, EachBelow, child_names}
-use Rattle.plain_set.specs.Validity.{IsValid, IsSeparating, Meets, MeetsContent}
+use Rattle.decl_set.specs.Validity.{IsValid, IsSeparating, Meets, MeetsContent}
 use Rattle.document_trees.specs.Trees.{stands_below}
-use Rattle.plain_set.specs.Validity.{HasDocument, IsUseful}
-use Rattle.plain_set.specs.Breaks.{Cause, ContentBreaks, BreaksBy, Breaks}
-use Rattle.tagset_tool.specs.Plain.{IsPlainIfAny}
+use Rattle.decl_set.specs.Validity.{HasDocument, IsUseful}
+use Rattle.decl_set.specs.Breaks.{Cause, ContentBreaks, BreaksBy, Breaks}
+use Rattle.tagset_tool.specs.Plain.{IsPlainIfAny, IsPlainAt}
 use Rattle.tagset_tool.specs.Reached.{Around, IsReached}
 use Rattle.tagset_tool.specs.Checks.{IsFine}
-use Rattle.plain_set.specs.Breaks as cause
+use Rattle.decl_set.specs.Breaks as cause
 
 -- an element with nothing in it
 abbrev pub leaf : List ℕ → Node
 leaf e = record { name = e; atts = []; items = nothing }
 
-pub empty_meets : (o : Option Content) → IsSome o → IsPlainIfAny o → MeetsContent o [] nothing
+-- where no attributes are declared, a node meets its content without any
+pub meets_bare : (set : Declarations) (e : List ℕ) (atts : List (List ℕ × List ℕ)) (items : Items) → attributes_in set e ≡ [] → Meets set e atts items → MeetsContent (content_in set e) [] atts items
+meets_bare set e atts items bare meets = let P : Definitions → Type 0 = λ list. MeetsContent (content_in set e) list atts items in subst P bare meets
+
+pub bare_meets : (set : Declarations) (e : List ℕ) (atts : List (List ℕ × List ℕ)) (items : Items) → attributes_in set e ≡ [] → MeetsContent (content_in set e) [] atts items → Meets set e atts items
+bare_meets set e atts items bare meets = let P : Definitions → Type 0 = λ list. MeetsContent (content_in set e) list atts items in subst P (sym bare) meets
+
+-- and it breaks as if there were none
+pub bare_breaks : (first second : Declarations) (e : List ℕ) (k : Cause) → attributes_in first e ≡ [] → attributes_in second e ≡ [] → BreaksBy first (content_in first e) (content_in second e) [] [] k → Breaks first second e k
+bare_breaks first second e k one other breaks =
+    let P : Definitions → Type 0 = λ list. BreaksBy first (content_in first e) (content_in second e) list [] k in
+    let Q : Definitions → Type 0 = λ list. BreaksBy first (content_in first e) (content_in second e) (attributes_in first e) list k in
+    subst Q (sym other) (subst P (sym one) breaks)
+
+pub breaks_bare : (first second : Declarations) (e : List ℕ) (k : Cause) → attributes_in first e ≡ [] → attributes_in second e ≡ [] → Breaks first second e k → BreaksBy first (content_in first e) (content_in second e) [] [] k
+breaks_bare first second e k one other breaks =
+    let P : Definitions → Type 0 = λ list. BreaksBy first (content_in first e) (content_in second e) list [] k in
+    let Q : Definitions → Type 0 = λ list. BreaksBy first (content_in first e) (content_in second e) (attributes_in first e) list k in
+    subst P one (subst Q other breaks)
+
+pub empty_meets : (o : Option Content) → IsSome o → IsPlainIfAny o → MeetsContent o [] [] nothing
 empty_meets None some plain = cc
 empty_meets (Some Empty) some plain = (refl, refl, refl)
 empty_meets (Some Any) some plain = (tt, tt, refl)
 empty_meets (Some (Mixed listed)) some plain = (refl, tt, refl)
 empty_meets (Some (Children part)) some plain = cc
 
-pub leaf_valid : (set : Declarations) (e : List ℕ) → IsSome (content_in set e) → IsPlainIfAny (content_in set e) → IsValid set e (leaf e)
-leaf_valid set e some plain = (refl, (empty_meets (content_in set e) some plain, tt))
+pub leaf_valid : (set : Declarations) (e : List ℕ) → IsSome (content_in set e) → IsPlainAt set e → IsValid set e (leaf e)
+leaf_valid set e some plain = (refl, (bare_meets set e [] nothing plain.bare (empty_meets (content_in set e) some plain.content), tt))
 
 pub leaf_document : (e : List ℕ) → IsTrue (is_name e) → IsDocument (leaf e)
 leaf_document e named = (record { named = named; attributes = refl; beside = refl }, tt)
@@ -59,16 +80,16 @@ and_true true t = refl
 and_true false t = cc
 
 -- a child of a reached element is reached
-pub child_reached : (first : Declarations) (root e n : List ℕ) (listed : List (List ℕ)) → IsReached first root e → content_in first e ≡ Some (Mixed listed) → IsTrue (among listed n) → IsTrue (is_name n)
+pub child_reached : (first : Declarations) (root e n : List ℕ) (listed : List (List ℕ)) → IsReached first root e → attributes_in first e ≡ [] → content_in first e ≡ Some (Mixed listed) → IsTrue (among listed n) → IsTrue (is_name n)
     → IsReached first root n
-child_reached first root e n listed reached is here named = record {
+child_reached first root e n listed reached bare is here named = record {
   named = named;
   wraps = λ inner document valid.
       let outer : Node = record { name = e; atts = []; items = element inner.name inner.atts inner.items nothing } in
       let P : List ℕ → Type 0 = λ name. IsTrue (among listed name && true) in
-      let Q : Option Content → Type 0 = λ o. MeetsContent o [] outer.items in
+      let Q : Option Content → Type 0 = λ o. MeetsContent o [] [] outer.items in
       let derived : P inner.name = subst P (sym valid.0) (and_true (among listed n) here) in
-      let meets : Meets first e [] outer.items = subst Q (sym is) (derived, tt, refl) in
+      let meets : Meets first e [] outer.items = bare_meets first e [] outer.items bare (subst Q (sym is) (derived, tt, refl)) in
       let around : Around first root outer = reached.wraps outer (record { named = reached.named; attributes = refl; beside = refl }, (document.0, document.1, tt)) (refl, (meets, (valid.1.0, valid.1.1, tt))) in
       record {
         node = around.node;
@@ -80,7 +101,7 @@ child_reached first root e n listed reached is here named = record {
 }
 
 -- a reached element that is declared stands in a document of the root
-pub reached_useful : (first : Declarations) (root e : List ℕ) → IsReached first root e → IsSome (content_in first e) → IsPlainIfAny (content_in first e) → IsUseful first root e
+pub reached_useful : (first : Declarations) (root e : List ℕ) → IsReached first root e → IsSome (content_in first e) → IsPlainAt first e → IsUseful first root e
 reached_useful first root e reached some plain =
     let around = reached.wraps (leaf e) (leaf_document e reached.named) (leaf_valid first e some plain) in
     (around.node, around.document, around.valid, around.stands e (or_false (bytes_eq e e) (nat_list_eq_equiv.refl e)))
@@ -109,18 +130,18 @@ and_right : (a b : Bool) → IsTrue (a && b) → IsTrue b
 and_right true b t = t
 and_right false b t = cc
 
-pub meets_some : (o : Option Content) (atts : List (List ℕ × List ℕ)) (items : Items) → MeetsContent o atts items → IsSome o
-meets_some None atts items meets = absurd meets
-meets_some (Some content) atts items meets = refl
+pub meets_some : (o : Option Content) (list : Definitions) (atts : List (List ℕ × List ℕ)) (items : Items) → MeetsContent o list atts items → IsSome o
+meets_some None list atts items meets = absurd meets
+meets_some (Some content) list atts items meets = refl
 
 -- the names listed for the children of what meets its content
-pub children_listed : (o : Option Content) (atts : List (List ℕ × List ℕ)) (items : Items) → IsPlainIfAny o → MeetsContent o atts items
+pub children_listed : (o : Option Content) (list : Definitions) (atts : List (List ℕ × List ℕ)) (items : Items) → IsPlainIfAny o → MeetsContent o list atts items
     → (listed : List (List ℕ)) × IsTrue (list_all (among listed) (child_names items)) × (o ≡ Some (Mixed listed) ⊎ listed ≡ [])
-children_listed None atts items plain meets = absurd meets
-children_listed (Some Empty) atts items plain meets = ([], rw meets.0 refl, inr refl)
-children_listed (Some Any) atts items plain meets = cc
-children_listed (Some (Mixed listed)) atts items plain meets = (listed, meets.0, inl refl)
-children_listed (Some (Children part)) atts items plain meets = cc
+children_listed None list atts items plain meets = absurd meets
+children_listed (Some Empty) list atts items plain meets = ([], rw meets.0 refl, inr refl)
+children_listed (Some Any) list atts items plain meets = cc
+children_listed (Some (Mixed listed)) list atts items plain meets = (listed, meets.0, inl refl)
+children_listed (Some (Children part)) list atts items plain meets = cc
 
 -- closed names lead from each of them to its children
 pub children_lead : (first : Declarations) (names : List (List ℕ)) (e : List ℕ) (listed : List (List ℕ)) → IsClosed first names → IsTrue (among names e) → (content_in first e ≡ Some (Mixed listed) ⊎ listed ≡ [])
@@ -128,12 +149,12 @@ pub children_lead : (first : Declarations) (names : List (List ℕ)) (e : List �
 children_lead first names e listed closed here (inl is) = λ n at some. closed.child e n listed here is at some
 children_lead first names e listed closed here (inr none) = λ n at some. let P : List (List ℕ) → Type 0 = λ l. IsTrue (among l n) in let no : IsTrue (among [] n) = subst P none at in cc
 
-pub below_named : (first : Declarations) (names listed : List (List ℕ)) (items : Items) → ((n : List ℕ) → IsPlainIfAny (content_in first n)) → IsClosed first names → Leads first names listed → IsTrue (list_all (among listed) (child_names items)) → EachBelow (Meets first) items
+pub below_named : (first : Declarations) (names listed : List (List ℕ)) (items : Items) → ((n : List ℕ) → IsPlainAt first n) → IsClosed first names → Leads first names listed → IsTrue (list_all (among listed) (child_names items)) → EachBelow (Meets first) items
     → EachBelow (IsNamedIn names) items
 below_named first names listed nothing ps closed leads all meets = tt
 below_named first names listed (element name atts inside later) ps closed leads all meets =
-    let here : IsTrue (among names name) = leads name (and_left (among listed name) (list_all (among listed) (child_names later)) all) (meets_some (content_in first name) atts inside meets.0) in
-    let children = children_listed (content_in first name) atts inside (ps name) meets.0 in (
+    let here : IsTrue (among names name) = leads name (and_left (among listed name) (list_all (among listed) (child_names later)) all) (meets_some (content_in first name) (attributes_in first name) atts inside meets.0) in
+    let children = children_listed (content_in first name) (attributes_in first name) atts inside (ps name).content meets.0 in (
       here,
       below_named first names children.0 inside ps closed (children_lead first names name children.0 closed here children.2) children.1 meets.1,
       below_named first names listed later ps closed leads (and_right (among listed name) (list_all (among listed) (child_names later)) all) meets.2,
@@ -151,29 +172,37 @@ children_documented first (chars text plain later) well meets = children_documen
 children_documented first (comment text later) well meets = children_documented first later well meets
 children_documented first (pi target body later) well meets = children_documented first later well meets
 
--- a node of an element that does not break meets the second set
-pub fine_meets : (first : Declarations) (a b : Option Content) (atts : List (List ℕ × List ℕ)) (items : Items) → IsPlainIfAny a → IsPlainIfAny b → ((k : Cause) → BreaksBy first a b k → ⊥)
-    → AllByRecursion (HasDocument first) (child_names items) → MeetsContent a atts items → MeetsContent b atts items
-fine_meets first None b atts items p q fine documented meets = absurd meets
-fine_meets first (Some a) None atts items p q fine documented meets = absurd (fine cause.undeclared tt)
-fine_meets first (Some Any) (Some b) atts items p q fine documented meets = cc
-fine_meets first (Some (Children part)) (Some b) atts items p q fine documented meets = cc
-fine_meets first (Some a) (Some Any) atts items p q fine documented meets = cc
-fine_meets first (Some a) (Some (Children part)) atts items p q fine documented meets = cc
-fine_meets first (Some Empty) (Some Empty) atts items p q fine documented meets = meets
-fine_meets first (Some Empty) (Some (Mixed ms)) atts items p q fine documented meets = (rw meets.0 refl, tt, meets.2)
-fine_meets first (Some (Mixed ns)) (Some Empty) atts items p q fine documented meets = absurd (fine cause.text (fine cause.content, tt))
-fine_meets first (Some (Mixed ns)) (Some (Mixed ms)) atts items p q fine documented meets = (by (list_all (among ms) (child_names items)) refl, tt, meets.2)
+-- items and attributes of an element that does not break meet the other content
+bare_fine : (first : Declarations) (a b : Option Content) (atts : List (List ℕ × List ℕ)) (items : Items) → IsPlainIfAny a → IsPlainIfAny b → ((k : Cause) → BreaksBy first a b [] [] k → ⊥)
+    → AllByRecursion (HasDocument first) (child_names items) → MeetsContent a [] atts items → MeetsContent b [] atts items
+bare_fine first None b atts items p q fine documented meets = absurd meets
+bare_fine first (Some a) None atts items p q fine documented meets = absurd (fine cause.undeclared tt)
+bare_fine first (Some Any) (Some b) atts items p q fine documented meets = cc
+bare_fine first (Some (Children part)) (Some b) atts items p q fine documented meets = cc
+bare_fine first (Some a) (Some Any) atts items p q fine documented meets = cc
+bare_fine first (Some a) (Some (Children part)) atts items p q fine documented meets = cc
+bare_fine first (Some Empty) (Some Empty) atts items p q fine documented meets = meets
+bare_fine first (Some Empty) (Some (Mixed ms)) atts items p q fine documented meets = (rw meets.0 refl, tt, meets.2)
+bare_fine first (Some (Mixed ns)) (Some Empty) atts items p q fine documented meets = absurd (fine cause.text (fine cause.content, tt))
+bare_fine first (Some (Mixed ns)) (Some (Mixed ms)) atts items p q fine documented meets = (by (list_all (among ms) (child_names items)) refl, tt, meets.2)
   where
     by : (t : Bool) → list_all (among ms) (child_names items) ≡ t → IsTrue (list_all (among ms) (child_names items))
     by true e = e
     by false e = absurd (fine cause.content (child_names items, documented, meets.0, λ d. let no : IsTrue false = sym e ∙ d in cc))
 
-pub below_fine : (first second : Declarations) (names : List (List ℕ)) (items : Items) → ((n : List ℕ) → IsPlainIfAny (content_in first n)) → ((n : List ℕ) → IsPlainIfAny (content_in second n)) → ((e : List ℕ) → IsTrue (among names e) → IsFine first second e) → EachBelow IsWellMade items → EachBelow (IsNamedIn names) items
+-- a node of an element that does not break meets the second set
+pub fine_meets : (first second : Declarations) (e : List ℕ) (atts : List (List ℕ × List ℕ)) (items : Items) → IsPlainAt first e → IsPlainAt second e → IsFine first second e
+    → AllByRecursion (HasDocument first) (child_names items) → Meets first e atts items → Meets second e atts items
+fine_meets first second e atts items p q fine documented meets =
+    bare_meets second e atts items q.bare
+    (bare_fine first (content_in first e) (content_in second e) atts items p.content q.content (λ k breaks. fine k (bare_breaks first second e k p.bare q.bare breaks)) documented
+    (meets_bare first e atts items p.bare meets))
+
+pub below_fine : (first second : Declarations) (names : List (List ℕ)) (items : Items) → ((n : List ℕ) → IsPlainAt first n) → ((n : List ℕ) → IsPlainAt second n) → ((e : List ℕ) → IsTrue (among names e) → IsFine first second e) → EachBelow IsWellMade items → EachBelow (IsNamedIn names) items
     → EachBelow (Meets first) items → EachBelow (Meets second) items
 below_fine first second names nothing p q fine well named meets = tt
 below_fine first second names (element name atts inside later) p q fine well named meets = (
-  fine_meets first (content_in first name) (content_in second name) atts inside (p name) (q name) (fine name named.0) (children_documented first inside well.1 meets.1) meets.0,
+  fine_meets first second name atts inside (p name) (q name) (fine name named.0) (children_documented first inside well.1 meets.1) meets.0,
   below_fine first second names inside p q fine well.1 named.1 meets.1,
   below_fine first second names later p q fine well.2 named.2 meets.2,
 )

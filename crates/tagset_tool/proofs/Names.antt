@@ -7,7 +7,7 @@ use Rattle.std.proofs.lemmas.Slice.Eq.{bytes_eq-Decides}
 use Rattle.std.specs.Map.{lookup}
 use Rattle.content_models.specs.declared.content.Content.{Content}
 use Rattle.content_models.specs.Model.{among}
-use Rattle.plain_set.specs.Declarations.{Declarations, Element, content_in}
+use Rattle.decl_set.specs.Declarations.{Declarations, Element, content_in}
 use Rattle.tagset_tool.specs.Checks.{declared, led, closes, is_closed, unmarked}
 use Rattle.tagset_tool.specs.Reached.{IsReached}
 use Rattle.tagset_tool.proofs.Documents.{IsClosed}

@@ -3,7 +3,8 @@ use Rattle.std.proofs.Common.{◌≡◌, ◌∙◌, ℕ, zero, suc, ◌+◌, ◌
 use Rattle.std.proofs.lemmas.Grind.{common_steps}
 use Rattle.jats_io.specs.Causes.{HasCause}
 use Rattle.jats_io.specs.Written.{SoundBytes}
-use Rattle.tagset_tool.specs.Output.{Files, IsOutput}
+use Rattle.module_reader.specs.Sources.{Files}
+use Rattle.tagset_tool.specs.Output.{IsOutput}
 use Rattle.tagset_tool.specs.Runs.{Runs}
 use Rattle.tagset_tool.specs.Sound.{IsDone}
 use Rattle.tagset_tool.proofs.OneOutput.{one_output}

@@ -5,9 +5,9 @@ use Rattle.jats_chars.specs.Names.{is_name}
 use Rattle.content_models.specs.declared.content.Content.{Content}
 use Rattle.content_models.specs.declared.content.Content.TheVariants.{Empty, Any, Mixed, Children}
 use Rattle.content_models.specs.Model.{among}
-use Rattle.plain_set.specs.Declarations.{Declarations, Element, content_in}
-use Rattle.plain_set.specs.Breaks.{Breaks}
-use Rattle.plain_set.specs.Breaks.{Cause}
+use Rattle.decl_set.specs.Declarations.{Declarations, Element, content_in}
+use Rattle.decl_set.specs.Breaks.{Breaks}
+use Rattle.decl_set.specs.Breaks.{Cause}
 use Rattle.tagset_tool.specs.declared.comparison.Cause.{Cause as Given}
 use Rattle.tagset_tool.specs.declared.comparison.Cause.TheVariants as given
 

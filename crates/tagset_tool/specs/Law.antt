@@ -1,10 +1,11 @@
 -- What the first line of an output says of the documents.
-use Rattle.std.specs.Prelude.{◌≡◌, ℕ, ◌⊎◌, List, Some, Ok, IsSome}
-use Rattle.plain_set.specs.Declarations.{Declarations}
+use Rattle.std.specs.Prelude.{◌≡◌, ℕ, ◌⊎◌, List, Some, Ok, IsSome, IsTrue}
+use Rattle.decl_set.specs.Declarations.{Declarations}
 use Rattle.document_trees.specs.Trees.{Node}
-use Rattle.plain_set.specs.Validity.{IsSeparating, IsSubset}
-use Rattle.tagset_tool.specs.Output.{Files, Asked, asked, IsOutput, root_in}
-use Rattle.tagset_tool.specs.Reading.{set_of}
+use Rattle.decl_set.specs.Validity.{IsSeparating, IsSubset}
+use Rattle.module_reader.specs.Sources.{Files}
+use Rattle.tagset_tool.specs.Output.{SetWords, compare, asked, set_by, IsOutput, root_in}
+use Rattle.tagset_tool.specs.Plain.{is_plain_set}
 
 -- status 0 where no document separates, and only there; status 1 where one does, and only there
 pub record SaysSubset (first second : Declarations) (root : List ℕ) (status : ℕ) : Type 0 where
@@ -12,10 +13,20 @@ pub record SaysSubset (first second : Declarations) (root : List ℕ) (status : 
   pub separate : status ≡ 1 → (node : Node) × IsSeparating first second root node
   pub one_of : (status ≡ 0) ⊎ (status ≡ 1)
 
+-- words ask to compare two sets, which are read and plain, and the first declares the root
+pub record IsCompared (words : List (List ℕ)) (files : Files) (first second : Declarations) (root : List ℕ) : Type 0 where
+  pub one : SetWords
+  pub other : SetWords
+  pub asks : asked words ≡ Some (compare one other root)
+  pub reads_first : set_by files one ≡ Ok first
+  pub reads_second : set_by files other ≡ Ok second
+  pub plain_first : IsTrue (is_plain_set first)
+  pub plain_second : IsTrue (is_plain_set second)
+  pub declared : IsSome (root_in first root)
+
 abbrev pub SubsetLaw : Type 0
-SubsetLaw = (words : List (List ℕ)) (files : Files) (question : Asked) (first second : Declarations) (status : ℕ) (bytes : List ℕ)
-    → asked words ≡ Some question → set_of files question.first ≡ Ok first → set_of files question.second ≡ Ok second → IsSome (root_in first question.root) → IsOutput words files status bytes
-    → SaysSubset first second question.root status
+SubsetLaw = (words : List (List ℕ)) (files : Files) (first second : Declarations) (root : List ℕ) (status : ℕ) (bytes : List ℕ)
+    → IsCompared words files first second root → IsOutput words files status bytes → SaysSubset first second root status
 
 -- words and files have one output
 abbrev pub OutputLaw : Type 0

@@ -1,12 +1,10 @@
 pub mod Checks
+pub mod Counts
 pub mod Law
-pub mod Lines
-pub mod Outcomes
 pub mod Output
 pub mod Plain
 pub mod Reached
-pub mod Reading
+pub mod Refusals
 pub mod Runs
 pub mod Sound
-pub mod Spaces
 pub mod Verdicts

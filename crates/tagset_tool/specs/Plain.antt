@@ -1,11 +1,9 @@
--- Plain contents: those that a comparison knows so far.
-use Rattle.std.specs.Prelude.{ℕ, Bool, true, false, List, Option, Some, None, IsTrue, if◌then◌else◌}
-use Rattle.std.specs.List.{AllByRecursion}
+-- Plain sets: those that a comparison knows so far.
+use Rattle.std.specs.Prelude.{◌≡◌, ℕ, Bool, true, false, ◌&&◌, List, [], ◌∷◌, Option, Some, None, IsTrue}
+use Rattle.std.specs.List.{list_all, AllByRecursion}
 use Rattle.content_models.specs.declared.content.Content.{Content}
 use Rattle.content_models.specs.declared.content.Content.TheVariants.{Empty, Any, Mixed, Children}
-use Rattle.content_models.specs.Proper.{is_proper}
-use Rattle.content_models.specs.Reading.{content_of}
-use Rattle.plain_set.specs.Declarations.{Declarations}
+use Rattle.decl_set.specs.Declarations.{Declarations, Element, AttributesOf, content_in, attributes_in}
 
 -- whether a content is EMPTY or mixed
 abbrev pub is_plain : Content → Bool
@@ -14,24 +12,28 @@ is_plain Any = false
 is_plain (Mixed listed) = true
 is_plain (Children part) = false
 
--- the content if it is plain
-abbrev pub if_plain : Content → Option Content
-if_plain content = if is_plain content then Some content else None
+abbrev pub has_plain_content : Element → Bool
+has_plain_content e = is_plain e.1
 
--- the content if it is proper and plain
-abbrev pub kept : Option Content → Option Content
-kept None = None
-kept (Some content) = if is_proper content then if_plain content else None
+abbrev pub are_none : List AttributesOf → Bool
+are_none [] = true
+are_none (list ∷ lists) = false
 
--- the proper and plain content that a text spells
-abbrev pub plain_content : List ℕ → Option Content
-plain_content text = kept (content_of text)
+-- whether all contents of the set are plain, and no attributes are declared
+abbrev pub is_plain_set : Declarations → Bool
+is_plain_set set = list_all has_plain_content set.elements && are_none set.lists
 
--- all contents of the set are plain
-abbrev pub IsPlain : Declarations → Type 0
-IsPlain set = AllByRecursion (λ e. IsTrue (is_plain e.1)) set.elements
+-- all contents of the set are plain, and no attributes are declared
+pub record IsPlain (set : Declarations) : Type 0 where
+  pub contents : AllByRecursion (λ e. IsTrue (is_plain e.1)) set.elements
+  pub lists : set.lists ≡ []
 
 -- the content, where there is one, is plain
 abbrev pub IsPlainIfAny : Option Content → Type 0
 IsPlainIfAny None = Unit {0}
 IsPlainIfAny (Some content) = IsTrue (is_plain content)
+
+-- the content of the name is plain, and it has no attributes
+pub record IsPlainAt (set : Declarations) (name : List ℕ) : Type 0 where
+  pub content : IsPlainIfAny (content_in set name)
+  pub bare : attributes_in set name ≡ []

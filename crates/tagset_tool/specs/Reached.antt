@@ -1,9 +1,9 @@
 -- Declarations whose documents stand in documents of the root.
 use Rattle.std.specs.Prelude.{ℕ, List, IsTrue}
 use Rattle.jats_chars.specs.Names.{is_name}
-use Rattle.plain_set.specs.Declarations.{Declarations}
+use Rattle.decl_set.specs.Declarations.{Declarations}
 use Rattle.document_trees.specs.Trees.{Node, IsDocument, EachNode}
-use Rattle.plain_set.specs.Validity.{IsValid, Meets}
+use Rattle.decl_set.specs.Validity.{IsValid, Meets}
 use Rattle.document_trees.specs.Trees.{stands_in}
 
 -- a document with another one inside

@@ -2,12 +2,13 @@
 use Rattle.std.specs.Prelude.{◌≡◌, ℕ, ◌≤◌, List, ◌++◌, Option, Some, None, Result, Ok, Err, Bool, IsTrue, IsSome, ◌⊎◌, codes, nat_eq}
 use Rattle.std.specs.List.{starts_with}
 use Rattle.jats_io.specs.Writes.{Appends, Appended}
-use Rattle.tagset_tool.specs.declared.read.ReadFault.{ReadFault}
-use Rattle.tagset_tool.specs.declared.read.ReadFault.TheVariants as fault
-use Rattle.tagset_tool.specs.declared.top.Answer.{Answer}
-use Rattle.tagset_tool.specs.declared.top.Stop.{Stop}
-use Rattle.tagset_tool.specs.declared.top.Stop.TheVariants as stop
-use Rattle.tagset_tool.specs.Output.{Files, asked, IsOutput, Refuses}
+use Rattle.module_reader.specs.Sources.{Files}
+use Rattle.module_reader.specs.declared.faults.ReadFault.{ReadFault}
+use Rattle.module_reader.specs.declared.faults.ReadFault.TheVariants as fault
+use Rattle.tagset_tool.specs.declared.answer.Answer.{Answer}
+use Rattle.tagset_tool.specs.declared.answer.Stop.{Stop}
+use Rattle.tagset_tool.specs.declared.answer.Stop.TheVariants as stop
+use Rattle.tagset_tool.specs.Output.{asked, IsOutput, Refuses}
 
 abbrev pub IsLoadFailed : {T : Type 0} → Result T Stop → Type 0
 IsLoadFailed result = result ≡ Err stop.LoadFailed

@@ -1,7 +1,8 @@
 -- What a run over a sound store and a sound sink leaves.
 use Rattle.std.specs.Prelude.{◌≡◌, ℕ, ◌+◌, ◌<◌, ◌⊎◌, List, ◌++◌, length}
 use Rattle.jats_io.specs.Written.{SoundBytes}
-use Rattle.tagset_tool.specs.Output.{Files, IsOutput}
+use Rattle.module_reader.specs.Sources.{Files}
+use Rattle.tagset_tool.specs.Output.{IsOutput}
 
 -- the output was written whole with its status, or memory ran out and nothing was written
 abbrev pub IsDone : ℕ → List ℕ → SoundBytes → SoundBytes → ℕ → Type 0

@@ -1,10 +1,10 @@
 -- What a comparison of two sets says.
 use Rattle.std.specs.Prelude.{ℕ, List}
 use Rattle.document_trees.specs.Trees.{Node}
-use Rattle.plain_set.specs.Declarations.{Declarations}
-use Rattle.plain_set.specs.Validity.{IsSeparating, IsSubset}
-use Rattle.plain_set.specs.Breaks.{IsFirstBroken}
-use Rattle.plain_set.specs.Breaks as reason
+use Rattle.decl_set.specs.Declarations.{Declarations}
+use Rattle.decl_set.specs.Validity.{IsSeparating, IsSubset}
+use Rattle.decl_set.specs.Breaks.{IsFirstBroken}
+use Rattle.decl_set.specs.Breaks as reason
 use Rattle.tagset_tool.specs.declared.comparison.Cause.{Cause}
 use Rattle.tagset_tool.specs.declared.comparison.Cause.TheVariants.{Undeclared, Content, Text}
 use Rattle.tagset_tool.specs.declared.comparison.Verdict.{Verdict}

@@ -1,6 +1,6 @@
 //! The comparison of two sets.
 
-ghost use Rattle.std.specs.Prelude.{◌≡◌, IfOk, OnOk, IsSome, Some, MatchOption, IsTrue, not, false, slice_get};
+ghost use Rattle.std.specs.Prelude.{◌≡◌, IfOk, OnOk, IsSome, Some, MatchOption, IsTrue, not, false, slice_get, []};
 ghost use Rattle.std.specs.Option.{option_copied};
 ghost use Rattle.std.specs.List.{list_all, AllByRecursion};
 ghost use Rattle.jats_chars.specs.Names.{is_name};
@@ -8,15 +8,15 @@ ghost use Rattle.content_models.specs.Model.{among};
 ghost use Rattle.tagset_tool.specs.Checks as spec;
 ghost use Rattle.tagset_tool.specs.Plain.{is_plain, IsPlain};
 ghost use Rattle.tagset_tool.specs.Reached.{IsReached};
-ghost use Rattle.plain_set.specs.Declarations.{content_in};
-ghost use Rattle.plain_set.specs.Validity.{HasDocument};
-ghost use Rattle.plain_set.specs.Breaks.{Cause as Reason, BreaksBy, Breaks};
+ghost use Rattle.decl_set.specs.Declarations.{content_in};
+ghost use Rattle.decl_set.specs.Validity.{HasDocument};
+ghost use Rattle.decl_set.specs.Breaks.{Cause as Reason, BreaksBy, Breaks};
 ghost use Rattle.tagset_tool.specs.Verdicts.{IsVerdict, meant};
 
 use crate::name_set::NameSet;
 use content_models::Content;
+use decl_set::DeclSet;
 use jats_chars::{Name, NoMemory};
-use plain_set::DeclSet;
 use std::alloc::Global;
 
 /// Why an element of the first set is not one of the second.
@@ -87,7 +87,7 @@ fn content_cause(first: &DeclSet, one: &Content, other: &Content) -> Option<Caus
     requires first { IsPlain first.now }
     requires one { IsTrue (is_plain one.now) }
     requires other { IsTrue (is_plain other.now) }
-    ensures { MatchOption result ((k : Reason) → BreaksBy first.now (Some one.now) (Some other.now) k → ⊥) (λ k. BreaksBy first.now (Some one.now) (Some other.now) (meant k)) }
+    ensures { MatchOption result ((k : Reason) → BreaksBy first.now (Some one.now) (Some other.now) [] [] k → ⊥) (λ k. BreaksBy first.now (Some one.now) (Some other.now) [] [] (meant k)) }
 {
     match one {
         Content::Empty => None,
@@ -179,6 +179,7 @@ fn content_at<'a>(first: &'a DeclSet, names: &NameSet, at: usize) -> Option<&'a 
 
 /// The elements that stand in documents from the root.
 fn useful_names(alloc: Global, first: &DeclSet, root: &Name) -> Result<NameSet, NoMemory>
+    requires { IsPlain first.now }
     ensures reached { IfOk result (λ names. AllByRecursion (IsReached first.now root.now) names) }
     ensures closed { IfOk result (λ names. IsTrue (spec.is_closed first.now names)) }
     ensures root { IfOk result (λ names. IsTrue (among names root.now)) }

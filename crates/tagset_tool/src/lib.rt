@@ -2,20 +2,22 @@
 //!
 //! `run` takes the words of the command line, a store of files and a sink for the output. It reads the words, reads the
 //! sets that they name, answers, and writes the whole answer once. `specs/Output.antt` says which status and which bytes
-//! the answer to words over files has; `specs/Reading.antt` says which set a file stands for; `specs/Verdicts.antt` says
-//! what a comparison of two sets answers, over all documents.
+//! the answer to words over files has; `specs/Counts.antt` what `check` counts; `specs/Verdicts.antt` says what a comparison
+//! of two sets answers, over all documents. Which set the files stand for is said by `module_reader`, and what its flat text
+//! is by `dtd_flattener`.
 #![tactic(auto)]
 
+mod answer;
 mod comparison;
+mod counts;
 mod laws;
-mod lines;
 mod name_set;
-mod read;
+mod plain_sets;
+mod refusals;
 mod rows;
-mod scan;
 mod sound;
-mod space;
 mod top;
+mod words;
 
 pub use laws::{output_law, subset_law};
 pub use sound::run_sound;

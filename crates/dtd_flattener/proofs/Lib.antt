@@ -1,0 +1,24 @@
+pub mod Flatness
+pub mod Leading
+pub mod Fronts
+pub mod Identifiers
+pub mod Asking
+pub mod TextChars
+pub mod Bodies
+pub mod Lines
+pub mod Apart
+pub mod Appended
+pub mod Notations
+pub mod Spelling
+pub mod Elements
+pub mod Encoded
+pub mod Characters
+pub mod Assembly
+pub mod Escapes
+pub mod Entities
+pub mod AttributeBodies
+pub mod Attributes
+pub mod NotationNames
+pub mod EntityChars
+pub mod AttributeChars
+mod Examples

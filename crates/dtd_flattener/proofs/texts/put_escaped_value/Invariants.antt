@@ -1,0 +1,6 @@
+use Rattle.std.proofs.Common.{◌≡◌, ◌++◌, take}
+use Rattle.dtd_flattener.specs.Flat.{escaped, is_special_value}
+use Rattle.dtd_flattener.proofs.texts.put_escaped_value.Given as goal
+
+abbrev pub invariant-loop-c : goal.invariant-loop-c
+invariant-loop-c l = l.out ≡ l.initial.out ++ escaped is_special_value (take l.c-index l.text)

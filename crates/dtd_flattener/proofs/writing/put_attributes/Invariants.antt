@@ -1,0 +1,8 @@
+use Rattle.std.proofs.Common.{◌≡◌, ◌++◌, map, take}
+use Rattle.std.specs.List.{concat}
+use Rattle.dtd_scanner.specs.declared.item.ItemKind.TheVariants.{AttlistDecl}
+use Rattle.dtd_flattener.specs.Flat.{attribute_body, written}
+use Rattle.dtd_flattener.proofs.writing.put_attributes.Given as goal
+
+abbrev pub invariant-loop-at : goal.invariant-loop-at
+invariant-loop-at l = l.out ≡ l.initial.out ++ concat (map (λ e. written (AttlistDecl, attribute_body l.element e)) (take l.at l.list))

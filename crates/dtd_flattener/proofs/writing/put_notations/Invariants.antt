@@ -1,0 +1,8 @@
+use Rattle.std.proofs.Common.{◌≡◌, ◌++◌, map, take}
+use Rattle.std.specs.List.{concat}
+use Rattle.dtd_scanner.specs.declared.item.ItemKind.TheVariants.{NotationDecl}
+use Rattle.dtd_flattener.specs.Flat.{notation_body, written}
+use Rattle.dtd_flattener.proofs.writing.put_notations.Given as goal
+
+abbrev pub invariant-loop-at : goal.invariant-loop-at
+invariant-loop-at l = l.out ≡ l.initial.out ++ concat (map (λ n. written (NotationDecl, notation_body n)) (take l.at l.set.notations))

@@ -1,0 +1,15 @@
+pub mod LoadedBy
+pub mod Stops
+pub mod Sources
+pub mod Bodies
+pub mod Reading
+pub mod Sets
+pub mod Outcomes
+pub mod Moves
+pub mod Frames
+pub mod ContentRead
+pub mod OfChars
+pub mod Loading
+pub mod Asking
+pub mod Keywords
+pub mod Counting

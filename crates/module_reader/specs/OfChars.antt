@@ -1,0 +1,11 @@
+-- What is read from bodies of Chars.
+use Rattle.std.specs.Prelude.{IsTrue}
+use Rattle.decl_set.specs.Asked.{are_chars, are_entity_ids}
+use Rattle.module_reader.specs.declared.bodies.RawDef.{RawDef}
+use Rattle.module_reader.specs.declared.bodies.RawDef.TheVariants.{Value, External, Unparsed}
+
+-- a value is of Chars, and identifiers are as they are asked for
+abbrev pub IsOfChars : RawDef → Type 0
+IsOfChars (Value text) = IsTrue (are_chars text)
+IsOfChars (External ids) = IsTrue (are_entity_ids ids)
+IsOfChars (Unparsed ids notation) = IsTrue (are_entity_ids ids)

@@ -1,0 +1,32 @@
+-- What the calls that read answer.
+use Rattle.std.specs.Prelude.{◌≡◌, Result, Ok, Err}
+use Rattle.jats_fault.specs.declared.fault.Fault.{Fault}
+use Rattle.module_reader.specs.declared.faults.ReadFault.{ReadFault}
+use Rattle.module_reader.specs.declared.faults.ReadFault.TheVariants as fault
+
+-- a load failed
+abbrev pub LoadFailed : {T : Type 0} → Result T ReadFault → Type 0
+LoadFailed (Ok x) = ⊥
+LoadFailed (Err (fault.Refused refusal)) = ⊥
+LoadFailed (Err fault.LoadFailed) = Unit {0}
+LoadFailed (Err fault.NoMemory) = ⊥
+
+-- the refusal of a file that is absent
+abbrev pub IsAbsence : {T : Type 0} → Result T ReadFault → Type 0
+IsAbsence (Ok x) = ⊥
+IsAbsence (Err (fault.Refused refusal)) = refusal.number ≡ 10
+IsAbsence (Err fault.LoadFailed) = ⊥
+IsAbsence (Err fault.NoMemory) = ⊥
+
+-- this refusal, or want of memory
+abbrev pub Refuses : Fault → ReadFault → Type 0
+Refuses said (fault.Refused refusal) = refusal ≡ said
+Refuses said fault.LoadFailed = ⊥
+Refuses said fault.NoMemory = Unit {0}
+
+-- the answer is the outcome, unless a load failed or memory ran out
+abbrev pub Reads : {T : Type 0} → Result T Fault → Result T ReadFault → Type 0
+Reads outcome (Ok x) = outcome ≡ Ok x
+Reads outcome (Err (fault.Refused refusal)) = outcome ≡ Err refusal
+Reads outcome (Err fault.LoadFailed) = Unit {0}
+Reads outcome (Err fault.NoMemory) = Unit {0}

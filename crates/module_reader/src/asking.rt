@@ -1,0 +1,302 @@
+//! What the bindings are asked, once the texts that are wanted are loaded.
+
+ghost use Rattle.std.specs.Prelude.{◌≡◌, ◌≤◌, Err, IfOk, IfSome, IsTrue, OnOk};
+ghost use Rattle.jats_chars.specs.Names.{is_name};
+ghost use Rattle.jats_io.specs.Causes.{HasCause};
+ghost use Rattle.pe_expansion.specs.Opening as opening;
+ghost use Rattle.pe_expansion.specs.Outcomes.{Expands};
+ghost use Rattle.pe_expansion.specs.declared.faults.PeFault.TheVariants as pe;
+ghost use Rattle.module_reader.specs.declared.faults.ReadFault.TheVariants as memory;
+ghost use Rattle.module_reader.specs.Asking.{HasText, IsOpened, IsWanted, IsWritten, OpensIn, OpensOnce, Turns, WritesOnce, stopped, written};
+ghost use Rattle.module_reader.specs.Counting.{Counts};
+ghost use Rattle.module_reader.specs.Moves.{GoesOn, Gives, Moves, StaysOfChars, counted};
+ghost use Rattle.module_reader.specs.Outcomes.{LoadFailed, IsAbsence};
+ghost use Rattle.module_reader.specs.Reading as reading;
+ghost use Rattle.module_reader.specs.Sources.{asking};
+
+use crate::ReadFault;
+use crate::loading::load_outer;
+use crate::standing::Standing;
+use crate::state::State;
+use crate::stops::{pe_stop, refused};
+use entity_catalog::Catalog;
+use jats_chars::{NameList, Text};
+use jats_fault::Details;
+use jats_io::Store;
+use pe_expansion::{Bindings, Budget, Opened, PeFault, literal_in, opening, plain_body_in};
+use std::alloc::Global;
+
+/// What a text is: the body of a declaration, or an entity value.
+#[derive(Clone, Copy, Debug, PartialEq, Eq)]
+pub enum Form {
+    Body,
+    Literal,
+}
+
+/// What stopped a question: the text that is wanted is loaded, or the reading stops.
+fn want<S: Store>(
+    alloc: Global,
+    store: &mut S,
+    catalog: &Catalog,
+    standing: &Standing,
+    at: usize,
+    state: &mut State,
+    fault: PeFault,
+) -> Result<(), ReadFault>
+    requires wanted { IsWanted state.old.bound fault }
+    ensures keeps { S.holds store.new ≡ S.holds store.old }
+    ensures faults { HasCause (S.faults store.old) (S.faults store.new) (LoadFailed result) }
+    ensures absences { HasCause (S.absences store.old) (S.absences store.new) (IsAbsence result) }
+    ensures memory { fault ≡ pe.NoMemory → result ≡ Err memory.NoMemory }
+    ensures told { IfSome (S.holds store.old) (λ files. Moves (stopped (record { files = files; catalog = catalog.now }) standing.now at state.old fault) state.new result) }
+    ensures goes_on { OnOk result (GoesOn state.old state.new) }
+{
+    match fault {
+        PeFault::NotLoaded(name) => {
+            load_outer(alloc, store, catalog, standing, at, state, &name)
+        }
+        fault => Err(pe_stop(alloc, standing, at, fault)),
+    }
+}
+
+fn written_by(
+    alloc: Global,
+    form: Form,
+    bound: &Bindings,
+    chain: &NameList,
+    text: &[char],
+    budget: &mut Budget,
+) -> Result<Text, PeFault>
+    ensures gives { Expands (written form bound.now chain.now budget.old.spent text.now) budget.old.spent budget.new.spent result }
+    ensures rises { budget.old.spent ≤ budget.new.spent }
+{
+    match form {
+        Form::Body => plain_body_in(alloc, bound, chain, text, budget),
+        Form::Literal => literal_in(alloc, bound, chain, text, budget),
+    }
+}
+
+/// What a text stands for, by the texts that are loaded.
+fn write_once(
+    alloc: Global,
+    form: Form,
+    chain: &NameList,
+    state: &mut State,
+    text: &[char],
+) -> Result<Text, PeFault>
+    ensures { WritesOnce (written form state.old.bound chain.now state.old.spent text.now) state.old state.new result }
+{
+    let mut budget = Budget { spent: state.spent };
+    let result = written_by(alloc, form, &state.bound, chain, text, &mut budget);
+    state.spent = budget.spent;
+    result
+}
+
+/// What a text stands for, or None where a text that is wanted was loaded.
+fn write_turn<S: Store>(
+    alloc: Global,
+    store: &mut S,
+    catalog: &Catalog,
+    chain: &NameList,
+    standing: &Standing,
+    at: usize,
+    state: &mut State,
+    form: Form,
+    text: &[char],
+) -> Result<Option<Text>, ReadFault>
+    ensures keeps { S.holds store.new ≡ S.holds store.old }
+    ensures faults { HasCause (S.faults store.old) (S.faults store.new) (LoadFailed result) }
+    ensures absences { HasCause (S.absences store.old) (S.absences store.new) (IsAbsence result) }
+    ensures answer { IfOk result (λ o. IfSome o (λ t. IsWritten (written form state.old.bound chain.now state.old.spent text.now) state.old state.new t)) }
+    ensures told { IfSome (S.holds store.old) (λ files. Turns (record { files = files; catalog = catalog.now }) standing.now at (written form state.old.bound chain.now state.old.spent text.now) state.old state.new result) }
+    ensures goes_on { OnOk result (GoesOn state.old state.new) }
+{
+    match write_once(alloc, form, chain, state, text) {
+        Ok(text) => Ok(Some(text)),
+        Err(fault) => match want(alloc, store, catalog, standing, at, state, fault) {
+            Err(fault) => Err(fault),
+            Ok(()) => Ok(None),
+        },
+    }
+}
+
+/// What a text stands for. The texts of outer entities are loaded where they are wanted.
+fn write<S: Store>(
+    alloc: Global,
+    store: &mut S,
+    catalog: &Catalog,
+    chain: &NameList,
+    standing: &Standing,
+    at: usize,
+    state: &mut State,
+    form: Form,
+    text: &[char],
+) -> Result<Text, ReadFault>
+    ensures keeps { S.holds store.new ≡ S.holds store.old }
+    ensures faults { HasCause (S.faults store.old) (S.faults store.new) (LoadFailed result) }
+    ensures absences { HasCause (S.absences store.old) (S.absences store.new) (IsAbsence result) }
+    ensures told { IfSome (S.holds store.old) (λ files. Gives (counted (asking (record { files = files; catalog = catalog.now }) standing.now at (λ t. written form t.bound chain.now t.spent text.now) state.old)) state.new result) }
+    ensures goes_on { OnOk result (GoesOn state.old state.new) }
+    ensures chars { StaysOfChars state.old text.now result }
+{
+    let mut left = state.bound.len();
+    'questions: loop {
+        match write_turn(
+            alloc, store, catalog, chain, standing, at, state, form, text,
+        ) {
+            Err(fault) => return Err(fault),
+            Ok(Some(text)) => return Ok(text),
+            Ok(None) => {}
+        }
+        if left == 0 {
+            return Err(refused(alloc, standing, at, 20, Details::new(alloc)));
+        }
+        left -= 1;
+    }
+}
+
+/// The entity of a reference, by the texts that are loaded.
+fn open_once(
+    alloc: Global,
+    chain: &NameList,
+    state: &mut State,
+    name: &[char],
+) -> Result<Opened, PeFault>
+    requires { IsTrue (is_name name.now) }
+    ensures { OpensOnce (opening.opening state.old.bound chain.now state.old.spent name.now) state.old state.new name.now result }
+{
+    match opening(alloc, &state.bound, chain, name, state.spent) {
+        Err(fault) => Err(fault),
+        Ok(opened) => {
+            state.spent = opened.spent;
+            Ok(opened)
+        }
+    }
+}
+
+/// The entity of a reference, or None where a text that is wanted was loaded.
+fn open_turn<S: Store>(
+    alloc: Global,
+    store: &mut S,
+    catalog: &Catalog,
+    chain: &NameList,
+    standing: &Standing,
+    at: usize,
+    state: &mut State,
+    name: &[char],
+) -> Result<Option<Opened>, ReadFault>
+    requires { IsTrue (is_name name.now) }
+    ensures keeps { S.holds store.new ≡ S.holds store.old }
+    ensures faults { HasCause (S.faults store.old) (S.faults store.new) (LoadFailed result) }
+    ensures absences { HasCause (S.absences store.old) (S.absences store.new) (IsAbsence result) }
+    ensures answer { IfOk result (λ o. IfSome o (λ x. IsOpened (opening.opening state.old.bound chain.now state.old.spent name.now) state.old state.new name.now x)) }
+    ensures told { IfSome (S.holds store.old) (λ files. Turns (record { files = files; catalog = catalog.now }) standing.now at (opening.opening state.old.bound chain.now state.old.spent name.now) state.old state.new result) }
+    ensures goes_on { OnOk result (GoesOn state.old state.new) }
+{
+    match open_once(alloc, chain, state, name) {
+        Ok(opened) => Ok(Some(opened)),
+        Err(fault) => match want(alloc, store, catalog, standing, at, state, fault) {
+            Err(fault) => Err(fault),
+            Ok(()) => Ok(None),
+        },
+    }
+}
+
+/// The body of a declaration without its references to parameter entities, where the names of the chain are open. The texts
+/// of outer entities are loaded where they are wanted. The count of included characters is that of the state.
+pub fn expand_body<S: Store>(
+    alloc: Global,
+    store: &mut S,
+    catalog: &Catalog,
+    chain: &NameList,
+    standing: &Standing,
+    at: usize,
+    state: &mut State,
+    body: &[char],
+) -> Result<Text, ReadFault>
+    ensures keeps { S.holds store.new ≡ S.holds store.old }
+    ensures faults { HasCause (S.faults store.old) (S.faults store.new) (LoadFailed result) }
+    ensures absences { HasCause (S.absences store.old) (S.absences store.new) (IsAbsence result) }
+    ensures told { IfSome (S.holds store.old) (λ files. Gives (counted (reading.expanded (record { files = files; catalog = catalog.now }) chain.now standing.now at state.old body.now)) state.new result) }
+    ensures goes_on { OnOk result (GoesOn state.old state.new) }
+    ensures chars { StaysOfChars state.old body.now result }
+{
+    write(
+        alloc,
+        store,
+        catalog,
+        chain,
+        standing,
+        at,
+        state,
+        Form::Body,
+        body,
+    )
+}
+
+/// What an entity value stands for, where the names of the chain are open. The texts of outer entities are loaded where they
+/// are wanted. The count of included characters is that of the state.
+pub fn expand_literal<S: Store>(
+    alloc: Global,
+    store: &mut S,
+    catalog: &Catalog,
+    chain: &NameList,
+    standing: &Standing,
+    at: usize,
+    state: &mut State,
+    quoted: &[char],
+) -> Result<Text, ReadFault>
+    ensures keeps { S.holds store.new ≡ S.holds store.old }
+    ensures faults { HasCause (S.faults store.old) (S.faults store.new) (LoadFailed result) }
+    ensures absences { HasCause (S.absences store.old) (S.absences store.new) (IsAbsence result) }
+    ensures told { IfSome (S.holds store.old) (λ files. Gives (counted (reading.valued (record { files = files; catalog = catalog.now }) chain.now standing.now at state.old quoted.now)) state.new result) }
+    ensures goes_on { OnOk result (GoesOn state.old state.new) }
+    ensures chars { StaysOfChars state.old quoted.now result }
+{
+    write(
+        alloc,
+        store,
+        catalog,
+        chain,
+        standing,
+        at,
+        state,
+        Form::Literal,
+        quoted,
+    )
+}
+
+/// The entity of a reference whose text is read by itself, where the names of the chain are open. Its text is loaded where it
+/// is wanted. The count of included characters is that of the state.
+pub fn open_entity<S: Store>(
+    alloc: Global,
+    store: &mut S,
+    catalog: &Catalog,
+    chain: &NameList,
+    standing: &Standing,
+    at: usize,
+    state: &mut State,
+    name: &[char],
+) -> Result<Opened, ReadFault>
+    requires { IsTrue (is_name name.now) }
+    ensures keeps { S.holds store.new ≡ S.holds store.old }
+    ensures faults { HasCause (S.faults store.old) (S.faults store.new) (LoadFailed result) }
+    ensures absences { HasCause (S.absences store.old) (S.absences store.new) (IsAbsence result) }
+    ensures told { IfSome (S.holds store.old) (λ files. OpensIn (asking (record { files = files; catalog = catalog.now }) standing.now at (λ t. opening.opening t.bound chain.now t.spent name.now) state.old) state.new name.now result) }
+    ensures found { IfOk result (λ o. HasText state.new.bound o.number name.now) }
+    ensures counts { IfOk result (λ o. Counts chain.now state.old.spent state.new o.number) }
+    ensures goes_on { OnOk result (GoesOn state.old state.new) }
+{
+    let mut left = state.bound.len();
+    'questions: loop {
+        match open_turn(alloc, store, catalog, chain, standing, at, state, name) {
+            Err(fault) => return Err(fault),
+            Ok(Some(opened)) => return Ok(opened),
+            Ok(None) => {}
+        }
+        if left == 0 {
+            return Err(refused(alloc, standing, at, 20, Details::new(alloc)));
+        }
+        left -= 1;
+    }
+}

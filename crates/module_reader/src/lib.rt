@@ -1,0 +1,34 @@
+//! Sets of declarations read from modules.
+//!
+//! A module is a text of items. `read_set` goes over the text of the entry and over the texts of the parameter entities that
+//! it refers to between declarations, loads the modules that outer entities name, each once, and declares in the set what
+//! the declarations say once their references are expanded.
+//!
+//! `specs/Reading.antt` says what a text does to a reading, by cases on its first item; `specs/Sources.antt` when a module is
+//! loaded, `specs/Bodies.antt` how the bodies of declarations are written, `specs/Stops.antt` where a reading stops and why.
+//! `specs/Sets.antt` puts these together: the set that an entry and a catalog stand for, or the first refusal.
+#![tactic(auto)]
+
+mod asking;
+mod bodies;
+mod catalogs;
+mod declaring;
+mod entities;
+mod faults;
+mod frames;
+mod kinds;
+mod loading;
+mod machine;
+mod openings;
+mod passing;
+mod reading;
+mod sections;
+mod standing;
+mod state;
+mod steps;
+mod stops;
+mod texts;
+
+pub use catalogs::load_catalog;
+pub use faults::ReadFault;
+pub use reading::read_set;

@@ -1,0 +1,116 @@
+//! Sets from a store.
+
+ghost use Rattle.std.specs.Prelude.{◌≡◌, [], IfOk, IfSome, IsSome, None, slice_get};
+ghost use Rattle.jats_io.specs.Causes.{HasCause};
+ghost use Rattle.decl_set.specs.Declaring.{end_fault};
+ghost use Rattle.module_reader.specs.Moves.{AreChars};
+ghost use Rattle.module_reader.specs.Outcomes.{LoadFailed, IsAbsence, Reads, Refuses};
+ghost use Rattle.module_reader.specs.Sets as spec;
+ghost use Rattle.module_reader.specs.Sources.{started};
+ghost use Rattle.module_reader.specs.Stops.{decl_stop as stop_of, module_text};
+ghost use Rattle.module_reader.specs.Frames.{from, text_found};
+
+use crate::ReadFault;
+use crate::loading::load_module;
+use crate::machine::read_text;
+use crate::standing::Standing;
+use crate::state::{Modules, State};
+use crate::stops::decl_stop;
+use decl_set::{DeclFault, DeclSet};
+use entity_catalog::Catalog;
+use jats_chars::{NoMemory, Text};
+use jats_io::Store;
+use pe_expansion::Bindings;
+use std::alloc::Global;
+
+/// A reading before its first module is loaded.
+fn begun(alloc: Global) -> State
+    ensures { result ≡ started }
+{
+    State {
+        bound: Bindings::new(alloc),
+        set: DeclSet::new(alloc),
+        spent: 0,
+        modules: Modules::new(alloc),
+        bytes: 0,
+    }
+}
+
+/// The standing of the text of a module.
+fn module_standing(alloc: Global, name: &Text) -> Result<Standing, NoMemory>
+    ensures { IfOk result (λ c. c ≡ module_text name.now) }
+{
+    let inmost = name.copy(alloc)?;
+    Ok(Standing {
+        inmost,
+        inner: None,
+    })
+}
+
+/// Why the set that is read is none.
+fn end_stop(alloc: Global, entry: &Text, fault: DeclFault) -> ReadFault
+    ensures { Refuses (stop_of (module_text entry.now) 0 fault) result }
+{
+    match module_standing(alloc, entry) {
+        Err(_) => ReadFault::NoMemory,
+        Ok(standing) => decl_stop(alloc, &standing, 0, fault),
+    }
+}
+
+/// The set, where the tests after the last declaration find no fault.
+fn finished(alloc: Global, entry: &Text, set: DeclSet) -> Result<DeclSet, ReadFault>
+    ensures told { Reads (spec.finished_by entry.now set (end_fault set)) result }
+    ensures load { LoadFailed result → ⊥ }
+    ensures absence { IsAbsence result → ⊥ }
+{
+    match set.finish() {
+        Ok(()) => Ok(set),
+        Err(DeclFault::NoMemory) => Err(ReadFault::NoMemory),
+        Err(fault) => Err(end_stop(alloc, entry, fault)),
+    }
+}
+
+/// The set that the entry stands for, which is loaded.
+fn read_entry<S: Store>(
+    alloc: Global,
+    store: &mut S,
+    catalog: &Catalog,
+    entry: &Text,
+    state: State,
+) -> Result<DeclSet, ReadFault>
+    requires entry { IsSome (slice_get state.modules 0) }
+    requires chars { AreChars state }
+    ensures keeps { S.holds store.new ≡ S.holds store.old }
+    ensures faults { HasCause (S.faults store.old) (S.faults store.new) (LoadFailed result) }
+    ensures absences { HasCause (S.absences store.old) (S.absences store.new) (IsAbsence result) }
+    ensures told { IfSome (S.holds store.old) (λ files. Reads (spec.entry_read (record { files = files; catalog = catalog.now }) entry.now (state, text_found (slice_get state.modules 0))) result) }
+{
+    let standing = module_standing(alloc, entry)?;
+    match read_text(alloc, store, catalog, state, standing) {
+        Err(fault) => Err(fault),
+        Ok(state) => finished(alloc, entry, state.set),
+    }
+}
+
+/// The set that the modules of the store stand for, from the entry on, with a catalog.
+///
+/// `Refused` has the first fault in reading order, with the module and the place that it is at: see `specs/Stops.antt` for
+/// its number and details. `LoadFailed` comes only where the store's faults rose in this call, and E10 only where its
+/// absences did.
+pub fn read_set<S: Store>(
+    alloc: Global,
+    store: &mut S,
+    catalog: &Catalog,
+    entry: &Text,
+) -> Result<DeclSet, ReadFault>
+    ensures keeps { S.holds store.new ≡ S.holds store.old }
+    ensures faults { HasCause (S.faults store.old) (S.faults store.new) (LoadFailed result) }
+    ensures absences { HasCause (S.absences store.old) (S.absences store.new) (IsAbsence result) }
+    ensures told { IfSome (S.holds store.old) (λ files. Reads (spec.set_from (record { files = files; catalog = catalog.now }) entry.now) result) }
+{
+    let mut state = begun(alloc);
+    match load_module(alloc, store, &mut state, entry) {
+        Err(fault) => Err(fault),
+        Ok(_) => read_entry(alloc, store, catalog, entry, state),
+    }
+}

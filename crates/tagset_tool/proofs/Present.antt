@@ -1,0 +1,97 @@
+-- Outputs that are not the line of an absent module.
+use Rattle.std.proofs.Common.{◌≡◌, ◌∙◌, ℕ, lit<, Bool, true, false, List, [], ◌∷◌, ◌++◌, Some, None, refl, sym, ap, subst, take, IsTrue, length, nat_lt, map, arith}
+use Rattle.std.specs.Prelude.{Option, encode_utf8_all}
+use Rattle.std.specs.List.{concat, flat_map}
+use Rattle.std.proofs.Math.Utf8.{encode}
+use Rattle.std.proofs.lemmas.Str.{encode_ascii}
+use Rattle.jats_fault.specs.Lines.{line_of}
+use Rattle.content_models.specs.declared.content.Content.{Content}
+use Rattle.decl_set.specs.Declarations.{Declarations, AttributesOf}
+use Rattle.dtd_flattener.specs.Flat.{Line, written, lines_of, flat_text, list_lines}
+use Rattle.tagset_tool.specs.declared.comparison.Verdict.{Verdict}
+use Rattle.tagset_tool.specs.declared.comparison.Verdict.TheVariants.{Subset, Above}
+use Rattle.tagset_tool.specs.Counts.{count_lines}
+use Rattle.tagset_tool.specs.Output.{Answers, OverSize, OverText, OverRoot, OverPlain, verdict_lines, most_written, root_in}
+use Rattle.tagset_tool.specs.Refusals.{form_unbuilt, root_undeclared, output_over}
+use Rattle.tagset_tool.specs.Runs.{is_absence}
+use Rattle.tagset_tool.proofs.Heads.{absence_number}
+
+abbrev pub IsPresent : List ℕ → Type 0
+IsPresent bytes = IsTrue (is_absence bytes) → ⊥
+
+same_present : (bytes said : List ℕ) → bytes ≡ said → IsPresent said → IsPresent bytes
+same_present bytes said is there = subst IsPresent (sym is) there
+
+-- ---- refusals
+
+unbuilt_present : IsPresent (line_of form_unbuilt)
+unbuilt_present t = absurd (let off : 19 ≡ 10 = absence_number form_unbuilt (lit< tt) t in omega arith)
+
+undeclared_present : (root : List ℕ) → IsPresent (line_of (root_undeclared root))
+undeclared_present root t = absurd (let off : 40 ≡ 10 = absence_number (root_undeclared root) (lit< tt) t in omega arith)
+
+over_present : IsPresent (line_of output_over)
+over_present t = absurd (let off : 46 ≡ 10 = absence_number output_over (lit< tt) t in omega arith)
+
+-- ---- flat texts
+
+-- a text that begins with `<`
+angle_present : (text : List ℕ) → take 1 text ≡ 60 ∷ [] → IsPresent (encode_utf8_all text)
+angle_present [] angle t = cc
+angle_present (c ∷ rest) angle t =
+    let is : c ≡ 60 = cc in
+    let P : List ℕ → Type 0 = λ front. IsTrue (is_absence (front ++ encode_utf8_all rest)) in
+    let off : IsTrue false = subst P (ap encode is ∙ encode_ascii 60 (lit< tt)) t in
+    cc
+
+-- the text of these lines does not begin so
+abbrev Begins : List Line → Type 0
+Begins lines = IsPresent (encode_utf8_all (concat (map written lines)))
+
+-- lines before others
+lines_begin : {X : Type 0} → (line : X → Line) (xs : List X) (rest : List Line) → ((x : X) (more : List ℕ) → take 1 (written (line x) ++ more) ≡ 60 ∷ []) → Begins rest → Begins (map line xs ++ rest)
+lines_begin line [] rest here later = later
+lines_begin line (x ∷ xs) rest here later =
+    angle_present (written (line x) ++ concat (map written (map line xs ++ rest))) (here x (concat (map written (map line xs ++ rest))))
+
+lists_begin : (lists : List AttributesOf) → Begins (flat_map list_lines lists)
+lists_begin [] t = let off : IsTrue false = t in cc
+lists_begin (l ∷ ls) t = lines_begin _ l.1 (flat_map list_lines ls) (λ e more. refl) (lists_begin ls) t
+
+flat_begins : (set : Declarations) → Begins (lines_of set)
+unfolding lines_of
+flat_begins set =
+    lines_begin _ set.notations _ (λ n more. refl)
+    (lines_begin _ set.entities _ (λ e more. refl)
+    (lines_begin _ set.elements _ (λ e more. refl) (lists_begin set.lists)))
+
+size_present : (long : Bool) (text : List ℕ) (status : ℕ) (bytes : List ℕ) → IsPresent text → OverSize long text status bytes → IsPresent bytes
+size_present true text status bytes there over = same_present bytes (line_of output_over) over.1 over_present
+size_present false text status bytes there over = same_present bytes text over.1 there
+
+-- ---- answers
+
+counted_present : (set : Declarations) → IsPresent (count_lines set)
+unfolding count_lines
+counted_present set t = let off : IsTrue false = t in cc
+
+-- counts are no line of an absent module
+pub counts_present : (set : Declarations) (status : ℕ) (bytes : List ℕ) → Answers (count_lines set) status bytes → IsPresent bytes
+counts_present set status bytes answers = same_present bytes (count_lines set) answers.1 (counted_present set)
+
+-- nor is a flat text
+pub flat_present : (set : Declarations) (status : ℕ) (bytes : List ℕ) → OverText (encode_utf8_all (flat_text set)) status bytes → IsPresent bytes
+flat_present set status bytes over = size_present (nat_lt most_written (length (encode_utf8_all (flat_text set)))) (encode_utf8_all (flat_text set)) status bytes (flat_begins set) over
+
+verdict_present : (v : Verdict) → IsPresent (verdict_lines v)
+verdict_present Subset t = let off : IsTrue false = t in cc
+verdict_present (Above broken) t = let off : IsTrue false = t in cc
+
+root_present : (first second : Declarations) (root : List ℕ) (o : Option Content) (status : ℕ) (bytes : List ℕ) → OverRoot first second root o status bytes → IsPresent bytes
+root_present first second root None status bytes over = same_present bytes (line_of (root_undeclared root)) over.1 (undeclared_present root)
+root_present first second root (Some content) status bytes over = same_present bytes (verdict_lines over.verdict) over.bytes_are (verdict_present over.verdict)
+
+-- nor is an answer over two sets
+pub plain_present : (first second : Declarations) (root : List ℕ) (both : Bool) (status : ℕ) (bytes : List ℕ) → OverPlain first second root both status bytes → IsPresent bytes
+plain_present first second root false status bytes over = same_present bytes (line_of form_unbuilt) over.1 unbuilt_present
+plain_present first second root true status bytes over = root_present first second root (root_in first root) status bytes over

@@ -1,0 +1,90 @@
+//! The words of the command line, and the sets that they name.
+
+ghost use Rattle.std.specs.Prelude.{◌≡◌, ◌<◌, ◌+◌, IfSome, bytes_eq, length};
+ghost use Rattle.std.specs.Option.{option_copied};
+ghost use Rattle.jats_io.specs.Causes.{HasCause};
+ghost use Rattle.module_reader.specs.Outcomes.{LoadFailed, IsAbsence, Reads};
+ghost use Rattle.module_reader.specs.Sets.{set_of};
+ghost use Rattle.tagset_tool.specs.Output as spec;
+
+use decl_set::DeclSet;
+use jats_chars::Text;
+use jats_io::Store;
+use module_reader::{ReadFault, load_catalog, read_set};
+use std::alloc::Global;
+
+fn is_word(word: &Text, letters: &[char]) -> bool
+    ensures { result ≡ bytes_eq word.now letters.now }
+{
+    word.as_slice() == letters
+}
+
+/// Whether the words have the form of a check.
+pub fn is_check(words: &[Text]) -> bool
+    ensures { result ≡ spec.is_check words.now }
+{
+    words.len() == 3 && is_word(&words[0], &['c', 'h', 'e', 'c', 'k'])
+}
+
+/// Whether the words ask for a flat text.
+pub fn is_flatten(words: &[Text]) -> bool
+    ensures { result ≡ spec.is_flatten words.now }
+{
+    words.len() == 3 && is_word(&words[0], &['f', 'l', 'a', 't', 't', 'e', 'n'])
+}
+
+/// Whether the words have the form of a comparison.
+pub fn is_compare(words: &[Text]) -> bool
+    ensures { result ≡ spec.is_compare words.now }
+{
+    words.len() == 7
+        && is_word(&words[0], &['c', 'o', 'm', 'p', 'a', 'r', 'e'])
+        && is_word(&words[6], &['0'])
+}
+
+/// The file of a catalog; `-` names none.
+fn catalog_word(word: &Text) -> Option<&Text>
+    ensures { option_copied result ≡ spec.catalog_word word.now }
+{
+    if is_word(word, &['-']) {
+        None
+    } else {
+        Some(word)
+    }
+}
+
+/// The set of an entry, with the catalog of a file.
+fn read_named<S: Store>(
+    alloc: Global,
+    store: &mut S,
+    catalog: Option<&Text>,
+    entry: &Text,
+) -> Result<DeclSet, ReadFault>
+    ensures keeps { S.holds store.new ≡ S.holds store.old }
+    ensures faults { HasCause (S.faults store.old) (S.faults store.new) (LoadFailed result) }
+    ensures absences { HasCause (S.absences store.old) (S.absences store.new) (IsAbsence result) }
+    ensures told { IfSome (S.holds store.old) (λ files. Reads (set_of files (option_copied catalog.entry) entry.now) result) }
+{
+    let catalog = match load_catalog(alloc, store, catalog) {
+        Ok(catalog) => catalog,
+        Err(fault) => return Err(fault),
+    };
+    read_set(alloc, store, &catalog, entry)
+}
+
+/// The set that the words at a place name: a catalog and an entry.
+pub fn read_words<S: Store>(
+    alloc: Global,
+    store: &mut S,
+    words: &[Text],
+    at: usize,
+) -> Result<DeclSet, ReadFault>
+    requires { at + 1 < length words.now }
+    ensures keeps { S.holds store.new ≡ S.holds store.old }
+    ensures faults { HasCause (S.faults store.old) (S.faults store.new) (LoadFailed result) }
+    ensures absences { HasCause (S.absences store.old) (S.absences store.new) (IsAbsence result) }
+    ensures told { IfSome (S.holds store.old) (λ files. Reads (spec.set_by files (spec.set_words words.now at)) result) }
+{
+    let catalog = catalog_word(&words[at]);
+    read_named(alloc, store, catalog, &words[at + 1])
+}
