@@ -22,6 +22,14 @@ expect 0 $'subset\ndocuments some' compare - examples/second.dtd - examples/firs
 expect 2 'refused E40 RootUndeclared - 0 article' compare - examples/first.dtd - examples/second.dtd article 0
 expect 2 'refused E10 ModuleAbsent examples/no.dtd 0' compare - examples/no.dtd - examples/second.dtd r 0
 expect 3 'usage'
+house=examples/house
+expect 0 $'ok\nelements 26\nattributes 16\nentities 4\nnotations 2' check $house/catalog.txt $house/house.dtd
+expect 0 $'ok\nelements 29\nattributes 16\nentities 4\nnotations 2' check - $house/base.dtd
+expect 0 "$(cat $house/flat.dtd)" flatten $house/catalog.txt $house/house.dtd
+expect 0 "$(cat $house/flat.dtd)" flatten - $house/flat.dtd
+expect 0 $'subset\ndocuments some' compare $house/catalog.txt $house/phrases.dtd - $house/base-phrases.dtd title 0
+expect 1 $'not subset\nabove 0\nbroken title content' compare - $house/base-phrases.dtd $house/catalog.txt $house/phrases.dtd title 0
+expect 2 'refused E19 FormUnbuilt - 0' compare - $house/base.dtd - $house/base.dtd article 0
 ./tagset compare - examples/first.dtd - examples/second.dtd r 0 > /dev/full 2>/dev/null
 if [ $? -eq 5 ]; then passed=$((passed + 1)); else failed=$((failed + 1)); echo "failed: a full device is not status 5"; fi
 echo "$passed passed, $failed failed"
