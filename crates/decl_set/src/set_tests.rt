@@ -86,7 +86,7 @@ fn def_of(alloc: Global, kind: &str, text: &str) -> Result<EntityDef, NoMemory>
     }
 }
 
-fn declare_named(
+pub(crate) fn declare_named(
     alloc: Global,
     set: &mut DeclSet,
     kind: &str,
@@ -184,6 +184,10 @@ fn declarations_have_their_faults(rt: HostRuntime) -> Result<(), Fail> {
     for (text, wanted) in [
         ("", "accepted"),
         ("notation x x;notation x y", "doubled notation x"),
+        (
+            "notation x x;notation y x;notation y y;notation x y",
+            "doubled notation y",
+        ),
         ("element r EMPTY;element r EMPTY", "doubled element r"),
         ("element r ANY;element r ((a,b)|(a,c))", "doubled element r"),
         ("element r ((a,b)|(a,c))", "ambiguous r 1 3"),
@@ -223,6 +227,10 @@ fn attributes_name_notations(rt: HostRuntime) -> Result<(), Fail> {
         (
             "attributes  a n NOTATION (x) #IMPLIED;unparsed u gif",
             "undeclared u gif",
+        ),
+        (
+            "attributes  b n NOTATION (x) #IMPLIED;attributes  a n NOTATION (y) #IMPLIED;element a EMPTY",
+            "undeclared b x",
         ),
         (
             "attributes  a n NOTATION (x) #IMPLIED;notation x x",
@@ -375,7 +383,8 @@ fn wrong_place_in(alloc: Global, set: &DeclSet) -> Result<Option<(&'static str, 
         ("entity", 1, ""),
         ("notation", 1, "w"),
         ("notation", 2, ""),
-        ("list", 0, ""),
+        ("list", 0, "b"),
+        ("list", 1, ""),
     ] {
         let wanted = Text::from_str(alloc, wanted)?;
         if name_at(set, kind, at) != wanted.as_slice() {
@@ -440,7 +449,7 @@ fn wrong_name_in(alloc: Global, set: &DeclSet) -> Result<Option<&'static str>, N
 #[test]
 fn sets_are_read(rt: HostRuntime) -> Result<(), Fail> {
     let text = "element a (b,(c|d));element m (#PCDATA|b|a)*;internal u one;\
-        internal u two;notation x x;element n EMPTY;notation w y";
+        internal u two;notation x x;element n EMPTY;notation w y;attributes  b k CDATA #IMPLIED";
     assert_eq!(rt; wrong_place(rt.alloc(), text)?, None);
     assert_eq!(rt; wrong_name(rt.alloc(), text)?, None);
     Ok(())
