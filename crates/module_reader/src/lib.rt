@@ -18,6 +18,8 @@ mod faults;
 mod frames;
 mod kinds;
 mod loading;
+#[cfg(test)]
+mod loading_tests;
 mod machine;
 mod openings;
 mod passing;
