@@ -1,15 +1,15 @@
 """Runs the table of rows on the program: status and output of each, to the byte.
 
-The program is ./tagset at the top of the repository, or what the variable TAGSET names."""
+The program is ./tagset at the top of the repository, or what the variable TAGSET names. The word `all` adds the slow
+rows; other words choose the rows whose names hold them."""
 
-import os
 import subprocess
 import sys
 import tempfile
 from concurrent.futures import ThreadPoolExecutor
 from pathlib import Path
 
-from rows import table
+from rows import slow_table, table
 from rows.program import built_program
 
 SECONDS = 120
@@ -55,8 +55,13 @@ def repeated(rows):
     return sorted({name for name in names if names.count(name) > 1})
 
 
+def chosen(words):
+    rows = table() + (slow_table() if "all" in words else [])
+    return [row for row in rows if all(word in row.name for word in words if word != "all")]
+
+
 def main():
-    rows = [row for row in table() if all(word in row.name for word in sys.argv[1:])]
+    rows = chosen(sys.argv[1:])
     for name in repeated(rows):
         print(f"failed: two rows are named: {name}")
     program = built_program()

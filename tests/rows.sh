@@ -6,4 +6,4 @@ if ! command -v python3 > /dev/null; then
     echo "failed: the table of rows needs python3, which is not installed"
     exit 1
 fi
-exec python3 -B tests/rows.py
+exec python3 -B tests/rows.py "$@"

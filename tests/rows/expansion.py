@@ -135,7 +135,7 @@ def doubled_texts(kind, sign):
     return "".join(lines)
 
 
-def bombs():
+def doubled():
     over = f"E25 ExpansionOver @ p{height_of(INCLUDED // 10 + 1, 30):02d}"
     parameters = doubled_texts("% ", "&#37;")
     return [
@@ -146,6 +146,11 @@ def bombs():
         refused("bomb: texts doubled 30 times, in an entity value", parameters + '¶<!ENTITY a "%p30;">', over),
         refused("bomb: texts doubled 30 times, in the value of an attribute",
                 doubled_texts("", "&") + '¶<!ATTLIST a k CDATA "&p30;">', over),
+    ]
+
+
+def bombs():
+    return [
         counted("bomb: 100,000 included sections in one another", "<![INCLUDE[" * 100_000 + "]]>" * 100_000),
         refused("bomb: 100,000 included sections that do not end",
                 "<![INCLUDE[" * 99_999 + "¶<![INCLUDE[", "E20 Malformed @"),
@@ -163,4 +168,9 @@ def bombs():
 
 
 def rows():
-    return parameter_depths() + general_depths() + module_depths() + spending() + bombs()
+    return parameter_depths() + general_depths() + module_depths() + bombs()
+
+
+def slow_rows():
+    """Rows that include 67,108,864 characters."""
+    return spending() + doubled()
