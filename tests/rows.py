@@ -62,18 +62,14 @@ def chosen(words):
 
 def main():
     rows = chosen(sys.argv[1:])
-    for name in repeated(rows):
-        print(f"failed: two rows are named: {name}")
     program = built_program()
     with ThreadPoolExecutor(WORKERS) as pool:
         failures = list(pool.map(lambda row: failure(program, row), rows))
-    for row, wrong in zip(rows, failures):
-        if wrong is not None:
-            print(f"failed: {row.name}: {wrong}")
-    failed = sum(wrong is not None for wrong in failures) + len(repeated(rows))
-    passed = len(rows) - sum(wrong is not None for wrong in failures)
-    print(f"{passed} passed, {failed} failed")
-    return 1 if failed or not passed else 0
+    lines = [f"{row.name}: {wrong}" for row, wrong in zip(rows, failures) if wrong is not None]
+    passed = len(rows) - len(lines)
+    lines += [f"two rows are named {name}" for name in repeated(rows)]
+    print("".join(f"failed: {line}\n" for line in lines) + f"{passed} passed, {len(lines)} failed")
+    return 1 if lines or not passed else 0
 
 
 if __name__ == "__main__":

@@ -1,6 +1,6 @@
 """Attribute lists, the values of their presets, and notations."""
 
-from .form import counted, flat, refused, refused_at_end, refused_inside
+from .form import beside, beside_at_end, each, flat
 
 # Name, a refused module, the refusal, a module that is accepted, its counts.
 PAIRS = [
@@ -172,14 +172,5 @@ VALUES = [
 
 
 def rows():
-    out = []
-    for name, bad, line, good, numbers in PAIRS:
-        out.append(refused("attribute: " + name, bad, line))
-        out.append(refused_inside("attribute: " + name, bad, line))
-        out.append(counted("accepted beside: attribute: " + name, good, *numbers))
-    for name, bad, line, good, numbers in ENDS:
-        out.append(refused("at the end: " + name, " " + bad, line))
-        out.append(refused_at_end("at the end: " + name, bad, line))
-        out.append(counted("accepted beside: at the end: " + name, good, *numbers))
-    out += [flat("value: " + name, text, output) for name, text, output in VALUES]
-    return out
+    values = [flat("value: " + name, text, output) for name, text, output in VALUES]
+    return each(lambda *pair: beside("attribute", *pair), PAIRS) + each(beside_at_end, ENDS) + values

@@ -1,6 +1,6 @@
 """Catalogs: their lines, what they resolve, what is refused."""
 
-from .form import ENTRY, Row, flat_twice, refused_files
+from .form import ENTRY, Row, each, flat_twice, refused_files
 
 A = "<!ELEMENT a EMPTY>"
 A_FLAT = A + "\n"
@@ -93,11 +93,14 @@ def placed():
         + flat_twice("catalog: a name above the catalog's folder", files, "c/cat.txt e/m.dtd", A_FLAT, 1)
 
 
+def resolved(name, catalog, entry):
+    files = {"cat.txt": catalog, ENTRY: entry, "a.ent": A, "b.ent": WRONG, "s": WRONG}
+    return [Row("catalog: " + name, files, "flatten cat.txt m.dtd", 0, A_FLAT)]
+
+
+def malformed(name, catalog, line):
+    return [Row("catalog: " + name, {"cat.txt": catalog}, "check cat.txt m.dtd", 2, f"refused {line}\n")]
+
+
 def rows():
-    out = unresolved() + placed()
-    for name, catalog, entry in RESOLVED:
-        files = {"cat.txt": catalog, ENTRY: entry, "a.ent": A, "b.ent": WRONG, "s": WRONG}
-        out.append(Row("catalog: " + name, files, "flatten cat.txt m.dtd", 0, A_FLAT))
-    for name, catalog, line in REFUSED:
-        out.append(Row("catalog: " + name, {"cat.txt": catalog}, "check cat.txt m.dtd", 2, f"refused {line}\n"))
-    return out
+    return unresolved() + placed() + each(resolved, RESOLVED) + each(malformed, REFUSED)

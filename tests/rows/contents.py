@@ -1,6 +1,6 @@
 """Elements: names that come twice, contents that are not deterministic, contents that are."""
 
-from .form import counted, refused, refused_inside, stands
+from .form import beside, each, stands
 
 # Name, a refused module, the refusal, a module that is accepted, its counts.
 PAIRS = [
@@ -52,12 +52,9 @@ MODELS = [
 ]
 
 
+def model(text):
+    return stands(f"the content {text}", f"<!ELEMENT r {text}>\n", 1)
+
+
 def rows():
-    out = []
-    for name, bad, line, good, numbers in PAIRS:
-        out.append(refused("content: " + name, bad, line))
-        out.append(refused_inside("content: " + name, bad, line))
-        out.append(counted("accepted beside: content: " + name, good, *numbers))
-    for model in MODELS:
-        out += stands(f"the content {model}", f"<!ELEMENT r {model}>\n", 1)
-    return out
+    return each(lambda *pair: beside("content", *pair), PAIRS) + [row for text in MODELS for row in model(text)]

@@ -1,6 +1,6 @@
 """Parameter entities: where they are read, what their texts must be."""
 
-from .form import counted, flat, refused, refused_inside
+from .form import counted, each, flat, refused_both
 
 MEANINGS = [
     ("a parameter entity in a content is padded, which parts a name from its sign",
@@ -134,9 +134,6 @@ ACCEPTED = [
 
 
 def rows():
-    out = [refused(name, text, line) for name, text, line in MEANINGS]
-    out += [refused_inside(name, text, line) for name, text, line in MEANINGS]
-    out += [flat(name, text, output) for name, text, output in ACCEPTED]
-    out.append(counted("an entity of general kind is counted, a parameter entity is not",
-                       "<!ENTITY % xx '&#37;zz;'>\n<!ENTITY % zz '&#60;!ENTITY t \"e\" >' >\n%xx;\n", 0, 0, 1))
-    return out
+    counted_once = counted("an entity of general kind is counted, a parameter entity is not",
+                           "<!ENTITY % xx '&#37;zz;'>\n<!ENTITY % zz '&#60;!ENTITY t \"e\" >' >\n%xx;\n", 0, 0, 1)
+    return each(refused_both, MEANINGS) + [flat(name, text, output) for name, text, output in ACCEPTED] + [counted_once]

@@ -1,6 +1,6 @@
 """Where several faults stand in one declaration: which is named."""
 
-from .form import refused, refused_inside
+from .form import each, refused_both
 
 DEEP = "(" * 65
 MANY = "|".join(f"n{k}" for k in range(1, 1026))
@@ -59,8 +59,4 @@ ORDER = [
 
 
 def rows():
-    out = []
-    for name, text, line in ORDER:
-        out.append(refused("order: " + name, text, line))
-        out.append(refused_inside("order: " + name, text, line))
-    return out
+    return each(lambda name, *rest: refused_both("order: " + name, *rest), ORDER)

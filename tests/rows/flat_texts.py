@@ -1,6 +1,6 @@
 """Flat texts, byte for byte, and that each is its own flat text with the same counts."""
 
-from .form import ENTRY, flat_twice, stands
+from .form import ENTRY, each, flat_twice, stands
 
 # Name, a text that is its own flat text, its counts.
 STANDING = [
@@ -91,10 +91,13 @@ WRITTEN = [
 ]
 
 
+def standing(name, text, numbers):
+    return stands("flat: " + name, text, *numbers)
+
+
+def written(name, text, output, numbers):
+    return flat_twice("flat: " + name, {ENTRY: text}, "- m.dtd", output, *numbers)
+
+
 def rows():
-    out = []
-    for name, text, numbers in STANDING:
-        out += stands("flat: " + name, text, *numbers)
-    for name, text, output, numbers in WRITTEN:
-        out += flat_twice("flat: " + name, {ENTRY: text}, "- m.dtd", output, *numbers)
-    return out
+    return each(standing, STANDING) + each(written, WRITTEN)

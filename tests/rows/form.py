@@ -62,6 +62,27 @@ def refused_at_end(name, text, line):
     return Row(name + ", in an inner module", files, "check - m.dtd", 2, output)
 
 
+def refused_both(name, text, line):
+    """A refusal of the entry, and of a module that the entry calls."""
+    return [refused(name, text, line), refused_inside(name, text, line)]
+
+
+def beside(subject, name, bad, line, good, numbers):
+    """A refusal beside its nearest neighbour that is accepted."""
+    return [*refused_both(f"{subject}: {name}", bad, line), counted(f"accepted beside: {subject}: {name}", good, *numbers)]
+
+
+def beside_at_end(name, bad, line, good, numbers):
+    name = "at the end: " + name
+    return [refused(name, " " + bad, line), refused_at_end(name, bad, line),
+            counted("accepted beside: " + name, good, *numbers)]
+
+
+def each(make, listed):
+    """The rows that each item of a list gives."""
+    return [row for item in listed for row in make(*item)]
+
+
 def counted(name, text, *numbers):
     return Row(name, {ENTRY: text}, "check - m.dtd", 0, counts(*numbers))
 

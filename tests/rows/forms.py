@@ -1,6 +1,6 @@
 """Forms of items and of declarations: each that is malformed beside its nearest that is accepted."""
 
-from .form import counted, refused, refused_inside
+from .form import beside, each
 
 # Name, a malformed module, a module that is accepted, its counts.
 PAIRS = [
@@ -140,9 +140,4 @@ PAIRS = [
 
 
 def rows():
-    out = []
-    for name, bad, good, numbers in PAIRS:
-        out.append(refused("malformed: " + name, bad, "E20 Malformed @"))
-        out.append(refused_inside("malformed: " + name, bad, "E20 Malformed @"))
-        out.append(counted("accepted beside: " + name, good, *numbers))
-    return out
+    return each(lambda name, bad, *good: beside("malformed", name, bad, "E20 Malformed @", *good), PAIRS)

@@ -1,6 +1,6 @@
 """Limits, each at its number and one past it, and what has no limit."""
 
-from .form import ENTRY, Row, counted, counts, refused, refused_inside
+from .form import ENTRY, Row, counted, counts, each, refused, refused_both
 
 MODULE = 4_194_304
 MODULES = 1_024
@@ -83,8 +83,8 @@ def bytes_of_sets():
     ]
 
 
-# Name, a module at the limit, its counts, a module past it, the refusal.
 def declarations():
+    """Name, a module at the limit, its counts, a module past it, the refusal."""
     deep, deeper = "(" * 64 + "a" + ")" * 64, "(" * 65 + "a" + ")" * 65
     mixed = "<!ELEMENT r (#PCDATA|{})*>"
     inner = "<!ELEMENT r ({},({}|{})*)>"
@@ -144,13 +144,12 @@ def unlimited():
     ]
 
 
+def at_and_past(name, good, numbers, bad, line):
+    return [counted("limit: " + name, good, *numbers), *refused_both("past: " + name, bad, line)]
+
+
 def rows():
-    out = bytes_of_modules() + number_of_modules() + follows() + unlimited()
-    for name, good, numbers, bad, line in declarations():
-        out.append(counted("limit: " + name, good, *numbers))
-        out.append(refused("past: " + name, bad, line))
-        out.append(refused_inside("past: " + name, bad, line))
-    return out
+    return bytes_of_modules() + number_of_modules() + follows() + unlimited() + each(at_and_past, declarations())
 
 
 def slow_rows():

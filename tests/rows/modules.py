@@ -1,6 +1,6 @@
 """Modules: which are loaded, how their bytes are read, whose place a refusal names."""
 
-from .form import (CALL, ENTRY, INNER, Row, counted, counts, flat_twice, refused_files)
+from .form import CALL, ENTRY, INNER, Row, counted, counts, each, flat_twice, refused_files
 
 CATALOG = 'PUBLIC "-//EX//DTD Custom Classes//EN" "custom-classes.ent"\n'
 
@@ -235,13 +235,18 @@ def folders():
     ]
 
 
+def accepted(name, files, words, output, numbers):
+    return flat_twice(name, files, words, output, *numbers)
+
+
+def beginning(name, data, line):
+    return [Row(name, {ENTRY: data}, "check - m.dtd", 2, f"refused {line}\n")]
+
+
 def rows():
-    out = customised() + folders()
-    for name, data, fault in BYTES:
-        out += of_bytes(name, data, fault)
-    out += [Row(name, {ENTRY: data}, "check - m.dtd", 2, f"refused {line}\n") for name, data, line in BEGINNINGS]
-    out += [counted(name, data, *numbers) for name, data, numbers in ACCEPTED_BYTES]
-    out += [refused_files(name, files, line, words) for name, files, line, words in PLACES]
-    for name, files, words, output, numbers in ACCEPTED:
-        out += flat_twice(name, files, words, output, *numbers)
-    return out
+    return [
+        *customised(), *folders(), *each(of_bytes, BYTES), *each(beginning, BEGINNINGS),
+        *[counted(name, data, *numbers) for name, data, numbers in ACCEPTED_BYTES],
+        *[refused_files(*place) for place in PLACES],
+        *each(accepted, ACCEPTED),
+    ]

@@ -1,6 +1,6 @@
 """Conditional sections."""
 
-from .form import counted, flat, refused, refused_inside
+from .form import counted, each, flat, refused_both
 
 DRAFT = "<![%draft;[\n<!ELEMENT a EMPTY>\n]]>\n<!ELEMENT b EMPTY>\n"
 BOOK = ("<![%draft;[\n<!ELEMENT book (comments*, title, body, supplements?)>\n]]>\n"
@@ -60,8 +60,8 @@ REFUSED = [
 
 
 def rows():
-    out = [flat(name, text, output) for name, text, output in READ]
-    out += [refused(name, text, line) for name, text, line in REFUSED]
-    out += [refused_inside(name, text, line) for name, text, line in REFUSED]
-    out.append(counted("an included section is counted", "<![INCLUDE[<!ATTLIST a k CDATA ''>]]>", 0, 1))
-    return out
+    return [
+        *[flat(name, text, output) for name, text, output in READ],
+        *each(refused_both, REFUSED),
+        counted("an included section is counted", "<![INCLUDE[<!ATTLIST a k CDATA ''>]]>", 0, 1),
+    ]
