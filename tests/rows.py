@@ -1,0 +1,76 @@
+"""Runs the table of rows on the program: status and output of each, to the byte.
+
+The program is ./tagset at the top of the repository, or what the variable TAGSET names. The word `all` adds the slow
+rows; other words choose the rows whose names hold them."""
+
+import subprocess
+import sys
+import tempfile
+from concurrent.futures import ThreadPoolExecutor
+from pathlib import Path
+
+from rows import slow_table, table
+from rows.program import built_program
+
+SECONDS = 120
+WORKERS = 4
+
+
+def as_bytes(content):
+    if callable(content):
+        content = content()
+    return content.encode("utf-8") if isinstance(content, str) else content
+
+
+def write_files(folder, files):
+    for name, content in files.items():
+        path = Path(folder, name)
+        path.parent.mkdir(parents=True, exist_ok=True)
+        path.write_bytes(as_bytes(content))
+
+
+def shown(data):
+    return repr(data if len(data) <= 300 else data[:300] + b"...")
+
+
+def failure(program, row):
+    """What is wrong with the row, or None."""
+    words = row.words.split(" ") if isinstance(row.words, str) else row.words
+    with tempfile.TemporaryDirectory() as folder:
+        write_files(folder, row.files)
+        try:
+            done = subprocess.run([program, *words], cwd=folder, stdin=subprocess.DEVNULL,
+                                  stdout=subprocess.PIPE, stderr=subprocess.PIPE, timeout=SECONDS)
+        except subprocess.TimeoutExpired:
+            return f"no answer in {SECONDS} seconds"
+    wanted = as_bytes(row.output)
+    if done.returncode == row.status and done.stdout == wanted:
+        return None
+    return (f"status {done.returncode}, output {shown(done.stdout)}; "
+            f"wanted status {row.status}, output {shown(wanted)}")
+
+
+def repeated(rows):
+    names = [row.name for row in rows]
+    return sorted({name for name in names if names.count(name) > 1})
+
+
+def chosen(words):
+    rows = table() + (slow_table() if "all" in words else [])
+    return [row for row in rows if all(word in row.name for word in words if word != "all")]
+
+
+def main():
+    rows = chosen(sys.argv[1:])
+    program = built_program()
+    with ThreadPoolExecutor(WORKERS) as pool:
+        failures = list(pool.map(lambda row: failure(program, row), rows))
+    lines = [f"{row.name}: {wrong}" for row, wrong in zip(rows, failures) if wrong is not None]
+    passed = len(rows) - len(lines)
+    lines += [f"two rows are named {name}" for name in repeated(rows)]
+    print("".join(f"failed: {line}\n" for line in lines) + f"{passed} passed, {len(lines)} failed")
+    return 1 if lines or not passed else 0
+
+
+if __name__ == "__main__":
+    sys.exit(main())

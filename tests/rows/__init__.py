@@ -1,0 +1,19 @@
+"""The table: rows by subject."""
+
+from . import (attributes, catalogs, comparison, contents, entities, expansion, faults, flat_texts,
+               forms, limits, modules, sections)
+
+SUBJECTS = (entities, expansion, sections, modules, catalogs, forms, contents, attributes, faults,
+            limits, flat_texts, comparison)
+
+
+SLOW = (expansion, limits)
+
+
+def table():
+    return [row for subject in SUBJECTS for row in subject.rows()]
+
+
+def slow_table():
+    """Rows that go to limits of many millions of characters, and take seconds each."""
+    return [row for subject in SLOW for row in subject.slow_rows()]
