@@ -1,15 +1,18 @@
 -- The pieces of bytes one at a time.
-use Rattle.std.proofs.Common.{◌≡◌, ℕ, ◌+◌, ◌<◌, ◌≤◌, Bool, true, false, List, [], ◌∷◌, ◌++◌, length, drop, Some, None, Ok, Err, refl, sym, ap, subst, arith, ◌∙◌, add_assoc, add-zero, one-add, append-nil, length-drop}
+use Rattle.std.proofs.Common.{◌≡◌, ℕ, ◌+◌, ◌<◌, ◌≤◌, Bool, true, false, List, [], ◌∷◌, ◌++◌, length, take, drop, Some, None, Ok, Err, refl, sym, ap, subst, arith, ◌∙◌, add_assoc, add-zero, one-add, append-nil, append_assoc, length-drop}
 use Rattle.std.specs.Prelude.{◌==◌, Option, Result}
-use Rattle.std.specs.List.{sum_by, prefix_len, take_while}
-use Rattle.std.proofs.lemmas.List.{drop_all, drop-drop}
+use Rattle.std.specs.List.{All, sum_by, prefix_len, take_while}
+use Rattle.std.proofs.lemmas.List.{drop_all, drop-drop, take-append-drop, length-take-le}
+use Rattle.std.proofs.lemmas.Bool.Decides.{nat_tests}
+use Rattle.std.proofs.lemmas.List.Elements.{All-head, All-tail}
 use Rattle.std.proofs.lemmas.List.Sums.{sum_by-cons}
 use Rattle.bstr.specs.Utf8.{Decoded, decoded, pieces}
 use Rattle.bstr.proofs.lemmas.PieceLemmas.{pieces-step, pieces-nil, piece-bounds}
 use Rattle.jats_chars.specs.Classes.{is_char}
-use Rattle.jats_chars.specs.Decoded.{spells_char, fault_of, chars_before, chars_of, Answers}
+use Rattle.jats_chars.specs.Decoded.{spells_char, IsPlain, fault_of, chars_before, chars_of, Answers}
 use Rattle.jats_chars.specs.declared.decoding.DecodeFault.{DecodeFault}
 use Rattle.jats_chars.proofs.Ends.{end_after, ended, behind, behind-ended}
+use Rattle.jats_chars.proofs.Plain.{plain_char, plain_size, plain_is_char}
 
 pub piece_bounds : (bs : List ℕ) → 0 < length bs → (0 < (decoded bs).size) × ((decoded bs).size ≤ length bs)
 piece_bounds bs some = let b = piece-bounds bs some in (omega (arith, b.0), b.2)
@@ -86,3 +89,57 @@ module _ (start at : ℕ) (bytes out : List ℕ) (after : Bool) where
       let B : List ℕ → Type 0 = λ h. spells_char (decoded h) ≡ false in
       let A : List ℕ → Type 0 = λ h. Answers said (Err (fault_of (decoded h).char (start + at))) in
       subst A (sym e) (answers_fault said (decoded (drop at bytes)).char (start + at) (is ∙ here-stop lt (subst B e bad)))
+
+no_cr : (c : ℕ) → IsPlain c → c == 0xD ≡ false
+no_cr c plain = grind (arith, nat_tests, plain)
+
+no_lf : (c : ℕ) → IsPlain c → c == 0xA ≡ false
+no_lf c plain = grind (arith, nat_tests, plain)
+
+stays : (after : Bool) (c : ℕ) → IsPlain c → end_after after c ≡ c ∷ []
+stays after c plain = simp (no_cr c plain, no_lf c plain)
+
+-- one plain byte
+here-plain : (start at : ℕ) (bytes out : List ℕ) (after : Bool) (c : ℕ) (later : List ℕ) → drop at bytes ≡ c ∷ later → at < length bytes → IsPlain c
+    → from_here start at bytes out after ≡ from_here start (at + 1) bytes (out ++ c ∷ []) false
+here-plain start at bytes out after c later e lt plain =
+    let F : List ℕ → Type 0 = λ h. (decoded h).char ≡ Some c in
+    let S : List ℕ → Type 0 = λ h. (decoded h).size ≡ 1 in
+    let char : (decoded (drop at bytes)).char ≡ Some c = subst F (sym e) (plain_char (c ∷ later) (omega arith) plain.1) in
+    let size : (decoded (drop at bytes)).size ≡ 1 = subst S (sym e) (plain_size (c ∷ later) (omega arith) plain.1) in
+    here-step start at bytes out after (drop at bytes) c 1 refl lt char size (plain_is_char c plain.0 plain.1)
+    ∙ ap (λ xs. from_here start (at + 1) bytes (out ++ xs) (c == 0xD)) (stays after c plain)
+    ∙ ap (λ b. from_here start (at + 1) bytes (out ++ c ∷ []) b) (no_cr c plain)
+
+one_on : (at : ℕ) (bytes : List ℕ) (c : ℕ) (later : List ℕ) → drop at bytes ≡ c ∷ later → drop (at + 1) bytes ≡ later
+one_on at bytes c later e = sym (drop-drop 1 at bytes) ∙ ap (drop 1) e
+
+some_here : (at : ℕ) (bytes : List ℕ) (c : ℕ) (later : List ℕ) → drop at bytes ≡ c ∷ later → at < length bytes
+some_here at bytes c later e = omega (arith, length-drop at bytes, ap length e)
+
+-- plain bytes that a plain byte or nothing precedes
+run_on : (start at : ℕ) (bytes out run later : List ℕ) → drop at bytes ≡ run ++ later → All IsPlain run
+    → from_here start at bytes out false ≡ from_here start (at + length run) bytes (out ++ run) false
+run_on start at bytes out [] later e plain = rw (add-zero, append-nil) refl
+run_on start at bytes out (c ∷ run) later e plain =
+    here-plain start at bytes out false c (run ++ later) e (some_here at bytes c (run ++ later) e) (All-head IsPlain c run plain)
+    ∙ run_on start (at + 1) bytes (out ++ c ∷ []) run later (one_on at bytes c (run ++ later) e) (All-tail IsPlain c run plain)
+    ∙ ap (λ n. from_here start n bytes (out ++ c ∷ [] ++ run) false) (add_assoc at 1 (length run) ∙ ap (λ n. at + n) (one-add (length run)))
+    ∙ ap (λ xs. from_here start (at + length (c ∷ run)) bytes xs false) (append_assoc out (c ∷ []) run)
+
+-- plain bytes, of which there are some
+some_run : (start at : ℕ) (bytes out : List ℕ) (after : Bool) (run later : List ℕ) → drop at bytes ≡ run ++ later → 0 < length run → All IsPlain run
+    → from_here start at bytes out after ≡ from_here start (at + length run) bytes (out ++ run) false
+some_run start at bytes out after [] later e some plain = elim some [ ]
+some_run start at bytes out after (c ∷ run) later e some plain =
+    here-plain start at bytes out after c (run ++ later) e (some_here at bytes c (run ++ later) e) (All-head IsPlain c run plain)
+    ∙ sym (here-plain start at bytes out false c (run ++ later) e (some_here at bytes c (run ++ later) e) (All-head IsPlain c run plain))
+    ∙ run_on start at bytes out (c ∷ run) later e plain
+
+-- the same, where what is read stands by itself
+pub here-run : (start at : ℕ) (bytes out : List ℕ) (after : Bool) (here : List ℕ) (run : ℕ) → here ≡ drop at bytes → 0 < run → run ≤ length here → All IsPlain (take run here)
+    → from_here start at bytes out after ≡ from_here start (at + run) bytes (out ++ take run here) false
+here-run start at bytes out after here run e some within plain =
+    let long : length (take run here) ≡ run = length-take-le run here within in
+    some_run start at bytes out after (take run here) (drop run here) (sym e ∙ sym (take-append-drop run here)) (omega (arith, long)) plain
+    ∙ ap (λ n. from_here start (at + n) bytes (out ++ take run here) false) long

@@ -1,5 +1,5 @@
 -- Bytes of ASCII that are no control characters.
-use Rattle.std.proofs.Common.{◌≡◌, ℕ, ◌<◌, ◌≤◌, true, List, length, Some, arith}
+use Rattle.std.proofs.Common.{◌≡◌, ℕ, ◌<◌, ◌≤◌, true, List, length, Some, refl, arith}
 use Rattle.std.specs.Prelude.{slice_index}
 use Rattle.bstr.specs.Utf8.{good, decoded}
 use Rattle.bstr.proofs.lemmas.PieceLemmas.{value-1}
@@ -18,3 +18,7 @@ plain_size bs some low = rw (plain bs some low)
 pub plain_is_char : (b : ℕ) → 0x20 ≤ b → b < 0x80 → is_char b ≡ true
 unfolding is_char
 plain_is_char b low high = grind (arith, nat_tests)
+
+pub line_feed_is_char : is_char 0xA ≡ true
+unfolding is_char
+line_feed_is_char = refl

@@ -1,5 +1,5 @@
 -- The text that a list of bytes stands for (XML 1.0, 2.2, 2.11, 4.3.1 and 4.3.3).
-use Rattle.std.specs.Prelude.{◌≡◌, ℕ, ◌+◌, Bool, false, ◌&&◌, ◌==◌, List, [], ◌∷◌, drop, Option, Some, None, Result, Ok, Err, nat_eq, if◌then◌else◌}
+use Rattle.std.specs.Prelude.{◌≡◌, ℕ, ◌+◌, ◌≤◌, ◌<◌, Bool, false, ◌&&◌, ◌==◌, List, [], ◌∷◌, drop, Option, Some, None, Result, Ok, Err, nat_eq, if◌then◌else◌}
 use Rattle.std.specs.List.{starts_with, prefix_len, take_while, sum_by, filter_map}
 use Rattle.bstr.specs.Utf8.{Decoded, pieces}
 use Rattle.jats_chars.specs.Classes.{is_char}
@@ -23,6 +23,10 @@ is_some_char (Some c) = is_char c
 -- whether a piece of the bytes spells a Char
 abbrev pub spells_char : Decoded → Bool
 spells_char piece = is_some_char piece.char
+
+-- a byte that spells by itself a Char that is no line end
+abbrev pub IsPlain : ℕ → Type 0
+IsPlain byte = (0x20 ≤ byte) × (byte < 0x80)
 
 -- what is wrong with a piece at this place that spells no Char: it is ill-formed, or another character
 abbrev pub fault_of : Option ℕ → ℕ → DecodeFault

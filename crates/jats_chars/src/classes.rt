@@ -126,6 +126,9 @@ const NAME_START: Ranges<16> = Ranges {
 pub fn is_name_start(c: char) -> bool
     ensures { result ≡ spec.is_name_start c }
 {
+    if c < '\u{80}' {
+        return ('a' <= c && c <= 'z') || ('A' <= c && c <= 'Z') || c == '_' || c == ':';
+    }
     NAME_START.holds(c)
 }
 
@@ -134,6 +137,12 @@ pub fn is_name_start(c: char) -> bool
 pub fn is_name_char(c: char) -> bool
     ensures { result ≡ spec.is_name_char c }
 {
+    if c < '\u{80}' {
+        return ('a' <= c && c <= 'z')
+            || ('A' <= c && c <= 'Z')
+            || ('-' <= c && c <= ':' && c != '/')
+            || c == '_';
+    }
     const MORE: Ranges<5> = Ranges {
         rows: [
             (0x2D, 0x2E),

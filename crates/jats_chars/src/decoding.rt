@@ -1,6 +1,7 @@
 //! Bytes as texts (XML 1.0, 2.2, 2.11, 4.3.1 and 4.3.3).
 
-ghost use Rattle.std.specs.Prelude.{◌≡◌, ◌+◌, ◌≤◌, ◌<◌, ◌∷◌, [], ◌++◌, length, drop, false, true, Some, None, MatchResult, IfOk, vec_len, vec_capacity, ◌==◌, ◌&&◌, ◌^◌, if◌then◌else◌};
+ghost use Rattle.std.specs.Prelude.{◌≡◌, ◌+◌, ◌≤◌, ◌<◌, ◌∷◌, [], ◌++◌, length, take, drop, false, true, Some, None, MatchResult, IfOk, vec_len, vec_capacity, ◌==◌, ◌&&◌, ◌^◌, if◌then◌else◌};
+ghost use Rattle.std.specs.List.{All};
 ghost use Rattle.bstr.specs.Utf8.{decoded, pieces};
 ghost use Rattle.jats_chars.specs.Classes.{is_char as char_class};
 ghost use Rattle.jats_chars.specs.Decoded as spec;
@@ -68,14 +69,14 @@ fn mark_len(file: &[u8]) -> usize
 
 /// The Char that the bytes begin with and how many bytes it takes, or what is wrong at this place.
 #[inline(always)]
-#[tactic(auto, using(crate::proofs::Pieces::piece_bounds, crate::proofs::Plain::plain_char, crate::proofs::Plain::plain_size, crate::proofs::Plain::plain_is_char))]
+#[tactic(auto, using(crate::proofs::Pieces::piece_bounds, crate::proofs::Plain::plain_char, crate::proofs::Plain::plain_size, crate::proofs::Plain::line_feed_is_char))]
 fn next_char(bytes: &[u8], place: usize) -> Result<(char, usize), DecodeFault>
     requires { 0 < length bytes.now }
     ensures size { IfOk result (λ r. (0 < r.1) × (r.1 ≤ length bytes.now)) }
     ensures found { MatchResult result (λ r. ((decoded bytes.now).char ≡ Some r.0) × ((decoded bytes.now).size ≡ r.1) × (char_class r.0 ≡ true)) (λ f. (f ≡ spec.fault_of (decoded bytes.now).char place) × (spec.spells_char (decoded bytes.now) ≡ false)) }
 {
     let first = bytes[0];
-    if 0x20 <= first && first < 0x80 {
+    if first == b'\n' {
         return Ok((first as char, 1));
     }
     let (found, size) = bstr::decode_utf8(bytes);
@@ -106,6 +107,30 @@ fn put(chars: &mut Vec<char>, after_cr: bool, c: char)
     }
 }
 
+/// How many bytes from the first on are plain.
+fn plain_len(bytes: &[u8]) -> usize
+    ensures within { result ≤ length bytes.now }
+    ensures plain { All spec.IsPlain (take result bytes.now) }
+{
+    let mut len = 0;
+    while len < bytes.len() && 0x20 <= bytes[len] && bytes[len] < 0x80 {
+        len += 1;
+    }
+    len
+}
+
+/// Appends plain bytes as characters. A loop of its own, so that it becomes vector code.
+fn put_plain(chars: &mut Vec<char>, run: &[u8])
+    requires { vec_len chars.old + length run.now ≤ vec_capacity chars.old }
+    ensures items { chars.new.items ≡ chars.old.items ++ run.now }
+    ensures len { vec_len chars.new ≡ vec_len chars.old + length run.now }
+    ensures capacity { vec_capacity chars.new ≡ vec_capacity chars.old }
+{
+    for byte in run {
+        chars.push_reserved(*byte as char);
+    }
+}
+
 /// The bytes from a place on.
 fn rest_of(bytes: &[u8], at: usize) -> &[u8]
     requires { at ≤ length bytes.now }
@@ -123,7 +148,15 @@ fn read_chars(alloc: Global, bytes: &[u8], start: usize) -> Result<Text, DecodeF
     let mut after_cr = false;
     let mut at = 0;
     while at < bytes.len() {
-        let (c, size) = match next_char(rest_of(bytes, at), start + at) {
+        let rest = rest_of(bytes, at);
+        let run = plain_len(rest);
+        if run > 0 {
+            put_plain(&mut chars, &rest[..run]);
+            after_cr = false;
+            at += run;
+            continue;
+        }
+        let (c, size) = match next_char(rest, start + at) {
             Err(fault) => return Err(fault),
             Ok(found) => found,
         };
