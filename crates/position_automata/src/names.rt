@@ -68,17 +68,16 @@ pub fn number_of(found: &IndexSet<Name>, name: &Name) -> usize
     }
 }
 
-/// The number of each of these names.
-pub fn numbers(
-    alloc: Global,
-    found: &IndexSet<Name>,
-    names: &[Name],
-) -> Result<Vec<usize>, NoMemory>
+/// The number of each of these names. Where numbers do not fit, memory is said to run out: no machine holds so many names.
+pub fn numbers(alloc: Global, found: &IndexSet<Name>, names: &[Name]) -> Result<Vec<u32>, NoMemory>
     ensures { IfOk result (λ v. v.items ≡ numbers_of found.now.keys names.now) }
 {
-    let mut numbers = Vec::new(alloc);
+    let mut numbers = Vec::with_capacity(alloc, names.len())?;
     for name in names {
-        numbers.push(number_of(found, name))?;
+        match u32::try_from(number_of(found, name)) {
+            Ok(number) => numbers.push(number)?,
+            Err(_) => return Err(NoMemory),
+        }
     }
     Ok(numbers)
 }
