@@ -98,7 +98,7 @@ fn sets_are_read_from_a_store(rt: HostRuntime) {
         (Some("cat.txt"), "a.dtd", Answer::Elements(3)),
         (None, "a.dtd", Answer::Refused(10)),
         (None, "no.dtd", Answer::Refused(10)),
-        (Some("no.txt"), "a.dtd", Answer::Refused(10)),
+        (Some("no.txt"), "b.ent", Answer::Refused(10)),
         (Some("cat.txt"), "a.dtd", Answer::LoadFailed),
         (Some("cat.txt"), "a.dtd", Answer::LoadFailed),
         (None, "b.ent", Answer::Elements(2)),
