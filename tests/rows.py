@@ -1,7 +1,7 @@
 """Runs the table of rows on the program: status and output of each, to the byte.
 
-The program is ./tagset at the top of the repository, or what the variable TAGSET names. The word `all` adds the slow
-rows; other words choose the rows whose names hold them."""
+The program is ./tagset at the top of the repository, or what the variable TAGSET names. Words choose the rows whose names
+hold all of them."""
 
 import subprocess
 import sys
@@ -9,7 +9,7 @@ import tempfile
 from concurrent.futures import ThreadPoolExecutor
 from pathlib import Path
 
-from rows import slow_table, table
+from rows import table
 from rows.program import built_program
 
 SECONDS = 120
@@ -56,8 +56,7 @@ def repeated(rows):
 
 
 def chosen(words):
-    rows = table() + (slow_table() if "all" in words else [])
-    return [row for row in rows if all(word in row.name for word in words if word != "all")]
+    return [row for row in table() if all(word in row.name for word in words)]
 
 
 def main():

@@ -6,14 +6,10 @@ from . import (attributes, catalogs, comparison, contents, entities, expansion, 
 SUBJECTS = (entities, expansion, sections, modules, catalogs, forms, contents, attributes, faults,
             limits, flat_texts, comparison)
 
-
+# These have rows that go to limits of many millions of characters, and take a second or more each.
 SLOW = (expansion, limits)
 
 
 def table():
-    return [row for subject in SUBJECTS for row in subject.rows()]
-
-
-def slow_table():
-    """Rows that go to limits of many millions of characters, and take seconds each."""
-    return [row for subject in SLOW for row in subject.slow_rows()]
+    quick = [row for subject in SUBJECTS for row in subject.rows()]
+    return quick + [row for subject in SLOW for row in subject.slow_rows()]
