@@ -1,8 +1,8 @@
 """A house customisation in the manner of JATS, of any scale: modules, classes, mixes, models and attribute lists.
 
-`write(folder, scale)` writes `catalog.txt`, `house.dtd` and their modules into a folder. At scale 1 there are about 62
-modules of 1.7 MB with 500 elements, 4,700 attributes and 2,200 entities; more elements than 1,000 are never declared, so
-that above scale 2 it is the texts of the mixes that grow. All of it depends on the scale alone."""
+`files(scale)` gives `catalog.txt`, `house.dtd` and their modules. At scale 1 there are 62 modules of 1.7 MB with 500 elements,
+4,700 attributes, 2,200 entities, 1.4 million pairs of names that may follow one another, and 2.7 million included characters.
+There are 1,000 elements at most, so that above scale 2 it is the mixes that grow. All of it depends on the scale alone."""
 
 import os
 
@@ -119,8 +119,19 @@ def files(scale):
     return found
 
 
-def write(folder, scale):
-    """Writes the files of this scale into the folder."""
-    for name, text in files(scale).items():
+def more_attributes(found, elements, count):
+    """Two modules more, which give each of so many elements so many attributes more."""
+    lists = ["<!ATTLIST " + name + "".join(f" more-{j} CDATA #IMPLIED" for j in range(count)) + ">\n"
+             for name in names(elements)]
+    for name, part in (("more-0.ent", lists[::2]), ("more-1.ent", lists[1::2])):
+        found[name] = "".join(part)
+        found["house.dtd"] += call(name, name.rsplit(".", 1)[0])
+        found["catalog.txt"] += f'PUBLIC "{identifier(name)}" "{name}"\n'
+    return found
+
+
+def write(folder, found):
+    """Writes these files into the folder."""
+    for name, text in found.items():
         with open(os.path.join(folder, name), "w", encoding="utf-8") as file:
             file.write(text)

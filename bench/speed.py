@@ -4,7 +4,6 @@
 most memory in megabytes. It judges nothing: read it."""
 
 import os
-import resource
 import shutil
 import subprocess
 import sys
@@ -53,8 +52,14 @@ def growth(program):
     """The same set at four scales."""
     for scale in (0.5, 1, 2, 4):
         with tempfile.TemporaryDirectory() as folder:
-            customisation.write(folder, scale)
+            customisation.write(folder, customisation.files(scale))
             least(f"check at scale {scale}", [program, "check", "catalog.txt", "house.dtd"], folder)
+
+
+def many_attributes(program):
+    with tempfile.TemporaryDirectory() as folder:
+        customisation.write(folder, customisation.more_attributes(customisation.files(1), 500, 191))
+        least("check, 100,000 attributes", [program, "check", "catalog.txt", "house.dtd"], folder)
 
 
 def doubled(count):
@@ -86,9 +91,10 @@ def write_many(folder, count):
 def main():
     program = os.path.abspath(sys.argv[1])
     with tempfile.TemporaryDirectory() as folder:
-        customisation.write(folder, 1)
+        customisation.write(folder, customisation.files(1))
         beside(folder, program)
     growth(program)
+    many_attributes(program)
     for title, text in bombs():
         with tempfile.TemporaryDirectory() as folder:
             with open(os.path.join(folder, "m.dtd"), "w", encoding="ascii") as entry:
@@ -97,7 +103,6 @@ def main():
     with tempfile.TemporaryDirectory() as folder:
         write_many(folder, 1023)
         least("1,023 inner modules", [program, "check", "-", "m.dtd"], folder)
-    print(f"own children, most memory: {resource.getrusage(resource.RUSAGE_CHILDREN).ru_maxrss / 1024:.1f} MB")
 
 
 if __name__ == "__main__":
