@@ -13,6 +13,7 @@ import time
 import customisation
 
 RUNS = 5
+MODULE = 4_194_304
 
 
 def run(words, folder):
@@ -42,10 +43,23 @@ def beside(folder, program):
     least("flatten, catalog", [program, "flatten", "catalog.txt", "house.dtd"], folder, ours)
     for tool, words in (("xmllint", ["--noout", "--loaddtd"]), ("xmllint", ["--noout", "--valid"]), ("rxp", ["-s", "-V"])):
         if shutil.which(tool) is None:
-            print(f"{tool}: not installed, skipped")
+            print(f"{tool}: not installed, skipped", flush=True)
             continue
         theirs = least(" ".join([tool, *words]), [tool, *words, "article.xml"], folder)
         print(f"{'check, as a multiple of it':44} {ours / theirs:9.2f}")
+
+
+def decoding(program):
+    """What decoding 4 MB adds to reading them: one module is refused by its length alone, the other at its last byte."""
+    line = b"<!ELEMENT emphasis-or-quotation (#PCDATA | bold | italic)*>\n"
+    text = (MODULE // len(line) + 1) * line
+    with tempfile.TemporaryDirectory() as folder:
+        for name, content in (("long.dtd", text[:MODULE + 1]), ("last.dtd", text[:MODULE - 1] + b"\xff")):
+            with open(os.path.join(folder, name), "wb") as file:
+                file.write(content)
+        reading = least("4 MB read, refused as too long", [program, "check", "-", "long.dtd"], folder)
+        both = least("4 MB read and decoded, refused at the end", [program, "check", "-", "last.dtd"], folder)
+    print(f"{'decoding alone':44} {MODULE / 1e6 / max(both - reading, 1e-9):9.0f} MB a second")
 
 
 def growth(program):
@@ -93,6 +107,7 @@ def main():
     with tempfile.TemporaryDirectory() as folder:
         customisation.write(folder, customisation.files(1))
         beside(folder, program)
+    decoding(program)
     growth(program)
     many_attributes(program)
     for title, text in bombs():
