@@ -6,6 +6,7 @@ MODULE = 4_194_304
 MODULES = 1_024
 SET = 33_554_432
 FOLLOWS = 16_000_000
+OUTPUT = 268_435_456
 
 
 def joined(sign, first, last):
@@ -152,6 +153,28 @@ def rows():
     return bytes_of_modules() + number_of_modules() + follows() + unlimited() + each(at_and_past, declarations())
 
 
+def wide_texts(last):
+    """107 entities of 500,000 `<` each, and one of so many letters."""
+    many = "".join(f"<!ENTITY x{k} '%p;'>" for k in range(107))
+    return f"<!ENTITY % p '{500_000 * '&#60;'}'>{many}<!ENTITY y '{last * 'y'}'>"
+
+
+def wide_output(last):
+    """Their flat text: each `<` takes five bytes."""
+    many = "".join(f'<!ENTITY x{k} "{500_000 * "&#60;"}">\n' for k in range(107))
+    return f'{many}<!ENTITY y "{last * "y"}">\n'
+
+
+def bytes_of_output():
+    lines = sum(len(f'<!ENTITY x{k} "">\n') for k in range(107)) + len('<!ENTITY y "">\n')
+    last = OUTPUT - 107 * 5 * 500_000 - lines
+    return [
+        Row("limit: bytes of an output", {ENTRY: lambda: wide_texts(last)}, "flatten - m.dtd", 0, lambda: wide_output(last)),
+        Row("past: bytes of an output", {ENTRY: lambda: wide_texts(last + 1)}, "flatten - m.dtd", 2,
+            "refused E46 OutputOver - 0\n"),
+    ]
+
+
 def slow_rows():
-    """Rows that load 33,554,432 bytes."""
-    return bytes_of_sets()
+    """Rows that load 33,554,432 bytes or write 268,435,456."""
+    return bytes_of_sets() + bytes_of_output()
