@@ -3,6 +3,7 @@ use Rattle.std.specs.Prelude.{ℕ, Bool, true, not, ◌&&◌, ◌==◌, nat_le, 
 use Rattle.std.specs.Fmt.{decimal}
 use Rattle.std.specs.Option.{option_map}
 use Rattle.std.specs.List.{find, list_all, list_any, starts_with}
+use Rattle.jats_fault.specs.declared.numbers.TheConstants as number
 
 -- a refusal's number and its name
 abbrev pub Row : Type 0
@@ -11,16 +12,16 @@ Row = ℕ × List ℕ
 -- the refusals
 abbrev pub table : List Row
 table =
-    (10, codes "ModuleAbsent") ∷ (11, codes "ModuleLong") ∷ (12, codes "SetOver") ∷ (13, codes "NotUtf8") ∷ (14, codes "NotChar") ∷ (15, codes "BadTextDecl")
-    ∷ (16, codes "EncodingOther") ∷ (19, codes "FormUnbuilt") ∷ (20, codes "Malformed") ∷ (21, codes "UndeclaredPe") ∷ (22, codes "RecursivePe")
-    ∷ (23, codes "PeNesting") ∷ (24, codes "EntityTooDeep") ∷ (25, codes "ExpansionOver") ∷ (26, codes "EntityUndeclared") ∷ (27, codes "LessThanInValue")
-    ∷ (28, codes "RecursiveEntity") ∷ (29, codes "DuplicateNotation") ∷ (30, codes "DuplicateElement") ∷ (31, codes "DuplicateMixedName")
-    ∷ (32, codes "Ambiguous") ∷ (33, codes "IdPreset") ∷ (34, codes "SecondId") ∷ (35, codes "SecondNotation") ∷ (36, codes "NotationOnEmpty")
-    ∷ (37, codes "NotationUndeclared") ∷ (38, codes "DuplicateToken") ∷ (39, codes "PresetNotInClass") ∷ (40, codes "RootUndeclared")
-    ∷ (41, codes "ElementsOver") ∷ (42, codes "PositionsOver") ∷ (43, codes "FollowsOver") ∷ (44, codes "GroupTooDeep") ∷ (45, codes "PairsOver")
-    ∷ (46, codes "OutputOver") ∷ (50, codes "CatalogMalformed") ∷ (51, codes "PathEscapes") ∷ (60, codes "ArticleMalformed") ∷ (61, codes "TagMismatch")
-    ∷ (62, codes "RepeatedAttribute") ∷ (63, codes "EntityUnknown") ∷ (64, codes "EntityExternal") ∷ (65, codes "ElementTooDeep")
-    ∷ (66, codes "RestAfterRoot") ∷ (67, codes "InternalSubset") ∷ (69, codes "EntityNesting") ∷ (70, codes "CertMalformed") ∷ []
+    (number.MODULE_ABSENT, codes "ModuleAbsent") ∷ (number.MODULE_LONG, codes "ModuleLong") ∷ (number.SET_OVER, codes "SetOver") ∷ (number.NOT_UTF8, codes "NotUtf8") ∷ (number.NOT_CHAR, codes "NotChar") ∷ (number.BAD_TEXT_DECL, codes "BadTextDecl")
+    ∷ (number.ENCODING_OTHER, codes "EncodingOther") ∷ (number.FORM_UNBUILT, codes "FormUnbuilt") ∷ (number.MALFORMED, codes "Malformed") ∷ (number.UNDECLARED_PE, codes "UndeclaredPe") ∷ (number.RECURSIVE_PE, codes "RecursivePe")
+    ∷ (number.PE_NESTING, codes "PeNesting") ∷ (number.ENTITY_TOO_DEEP, codes "EntityTooDeep") ∷ (number.EXPANSION_OVER, codes "ExpansionOver") ∷ (number.ENTITY_UNDECLARED, codes "EntityUndeclared") ∷ (number.LESS_THAN_IN_VALUE, codes "LessThanInValue")
+    ∷ (number.RECURSIVE_ENTITY, codes "RecursiveEntity") ∷ (number.DUPLICATE_NOTATION, codes "DuplicateNotation") ∷ (number.DUPLICATE_ELEMENT, codes "DuplicateElement") ∷ (number.DUPLICATE_MIXED_NAME, codes "DuplicateMixedName")
+    ∷ (number.AMBIGUOUS, codes "Ambiguous") ∷ (number.ID_PRESET, codes "IdPreset") ∷ (number.SECOND_ID, codes "SecondId") ∷ (number.SECOND_NOTATION, codes "SecondNotation") ∷ (number.NOTATION_ON_EMPTY, codes "NotationOnEmpty")
+    ∷ (number.NOTATION_UNDECLARED, codes "NotationUndeclared") ∷ (number.DUPLICATE_TOKEN, codes "DuplicateToken") ∷ (number.PRESET_NOT_IN_CLASS, codes "PresetNotInClass") ∷ (number.ROOT_UNDECLARED, codes "RootUndeclared")
+    ∷ (number.ELEMENTS_OVER, codes "ElementsOver") ∷ (number.POSITIONS_OVER, codes "PositionsOver") ∷ (number.FOLLOWS_OVER, codes "FollowsOver") ∷ (number.GROUP_TOO_DEEP, codes "GroupTooDeep") ∷ (number.PAIRS_OVER, codes "PairsOver")
+    ∷ (number.OUTPUT_OVER, codes "OutputOver") ∷ (number.CATALOG_MALFORMED, codes "CatalogMalformed") ∷ (number.PATH_ESCAPES, codes "PathEscapes") ∷ (number.ARTICLE_MALFORMED, codes "ArticleMalformed") ∷ (number.TAG_MISMATCH, codes "TagMismatch")
+    ∷ (number.REPEATED_ATTRIBUTE, codes "RepeatedAttribute") ∷ (number.ENTITY_UNKNOWN, codes "EntityUnknown") ∷ (number.ENTITY_EXTERNAL, codes "EntityExternal") ∷ (number.ELEMENT_TOO_DEEP, codes "ElementTooDeep")
+    ∷ (number.REST_AFTER_ROOT, codes "RestAfterRoot") ∷ (number.INTERNAL_SUBSET, codes "InternalSubset") ∷ (number.ENTITY_NESTING, codes "EntityNesting") ∷ (number.CERT_MALFORMED, codes "CertMalformed") ∷ []
 
 -- whether the number is that of a row
 abbrev pub has_number : List Row → ℕ → Bool

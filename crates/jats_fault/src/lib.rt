@@ -9,6 +9,7 @@
 mod fault;
 mod laws;
 mod lines;
+pub mod numbers;
 mod table;
 #[cfg(test)]
 mod tests;

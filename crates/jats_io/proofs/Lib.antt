@@ -1,3 +1,4 @@
 pub mod Entries
+pub mod Failures
 pub mod Pieces
 pub mod Puts

@@ -1,5 +1,5 @@
 -- What a load answers, over the files by name.
-use Rattle.std.specs.Prelude.{◌≡◌, ℕ, ◌+◌, List, [], ◌∷◌, Option, Some, None, option_map, take, Result, Ok, Err, cond, bytes_eq}
+use Rattle.std.specs.Prelude.{◌≡◌, ◌⊎◌, ℕ, ◌+◌, List, ◌++◌, [], ◌∷◌, Option, Some, None, option_map, take, Result, Ok, Err, cond, bytes_eq}
 use Rattle.jats_io.specs.declared.store.Loaded.{Loaded}
 use Rattle.jats_io.specs.declared.store.Loaded.TheVariants as loaded
 use Rattle.jats_io.specs.declared.store.LoadFault.{LoadFault}
@@ -22,6 +22,12 @@ Failed result = result ≡ Err fault.Failed
 -- the file was absent
 abbrev pub Absent : Result Loaded LoadFault → Type 0
 Absent result = result ≡ Ok loaded.Absent
+
+-- the name is the last that was asked for; where memory ran out it may not be among them
+abbrev pub Asks : List (List ℕ) → List (List ℕ) → List ℕ → Result Loaded LoadFault → Type 0
+Asks before now name (Ok it) = now ≡ before ++ name ∷ []
+Asks before now name (Err fault.Failed) = now ≡ before ++ name ∷ []
+Asks before now name (Err fault.NoMemory) = (now ≡ before ++ name ∷ []) ⊎ (now ≡ before)
 
 -- these are the first limit + 1 bytes of what is held under the name, or all where there are fewer
 abbrev pub IsHeld : List (List ℕ × List ℕ) → List ℕ → ℕ → List ℕ → Type 0

@@ -1,10 +1,11 @@
 //! The files of a folder.
 
-ghost use Rattle.std.specs.Prelude.{◌≡◌, ◌≤◌, ◌<◌, ◌+◌, ◌^◌, ◌∷◌, ◌++◌, IfOk, IfSome, length, take, vec_len, string_bytes, encode_utf8_all};
+ghost use Rattle.std.specs.Prelude.{◌≡◌, ◌≤◌, ◌<◌, ◌+◌, ◌^◌, [], ◌∷◌, ◌++◌, IfOk, OnOk, OnErr, IfSome, length, take, vec_len, string_bytes, encode_utf8_all};
 ghost use Rattle.std.specs.Io.KnownBytes.{Consumes, IsAtEnd};
+ghost use Rattle.jats_io.specs.StoredBy.{names_asked};
 
 use crate::store::{LoadFault, Loaded, Store};
-use jats_chars::{NoMemory, Text};
+use jats_chars::{NoMemory, Text, TextList};
 use std::alloc::{AllocError, Global};
 use std::fs::{self, Files};
 use std::io::{ErrorKind, Read};
@@ -19,6 +20,7 @@ pub struct FolderStore<'a, R: Files> {
     folder: Text,
     faults: u64,
     absences: u64,
+    asked: Option<TextList>,
 }
 
 impl<'a, R: Files> FolderStore<'a, R> {
@@ -33,6 +35,26 @@ impl<'a, R: Files> FolderStore<'a, R> {
             folder,
             faults: 0,
             absences: 0,
+            asked: None,
+        }
+    }
+
+    /// Lists the name as asked for.
+    fn ask(&mut self, alloc: Global, name: &Text) -> Result<(), NoMemory>
+        ensures ok { OnOk result (names_asked self.new.asked ≡ names_asked self.old.asked ++ name.now ∷ []) }
+        ensures err { OnErr result (names_asked self.new.asked ≡ names_asked self.old.asked) }
+        ensures faults { self.new.faults ≡ self.old.faults }
+        ensures absences { self.new.absences ≡ self.old.absences }
+    {
+        let name = name.copy(alloc)?;
+        match &mut self.asked {
+            Some(names) => names.push(name),
+            None => {
+                let mut names = TextList::new(alloc);
+                names.push(name)?;
+                self.asked = Some(names);
+                Ok(())
+            }
         }
     }
 }
@@ -44,6 +66,7 @@ impl<'a, R: Files> Drop for FolderStore<'a, R> {
             folder: _,
             faults: _,
             absences: _,
+            asked: _,
         } = self;
     }
 }
@@ -139,7 +162,12 @@ impl<'a, R: Files> Store for FolderStore<'a, R> {
 
     ghost absences = { λ s. s.absences };
 
+    ghost asked = { λ s. names_asked s.asked };
+
     fn load(&mut self, alloc: Global, name: &Text, limit: usize) -> Result<Loaded, LoadFault> {
+        if self.ask(alloc, name).is_err() {
+            return Err(LoadFault::NoMemory);
+        }
         let path = match path_of(alloc, &self.folder, name) {
             Ok(path) => path,
             Err(_) => return Err(LoadFault::NoMemory),

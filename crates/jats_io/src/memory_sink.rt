@@ -1,7 +1,7 @@
 //! A sink in memory that fails when it is told to.
 
 ghost use Rattle.std.specs.Prelude.{◌≡◌, ◌<◌, ◌≤◌, [], ◌∷◌, ◌++◌, length, IfOk, OnOk, OnErr, IsErr, Some};
-ghost use Rattle.jats_io.specs.Causes.{HasCause};
+ghost use Rattle.jats_io.specs.Causes.{Counts, HasCause};
 ghost use Rattle.jats_io.specs.Writes.{Writes};
 ghost use Rattle.jats_io.specs.Written.{Written, WritesMemory};
 
@@ -78,6 +78,7 @@ impl Sink for MemorySink {
 
     fn write(&mut self, bytes: &[u8]) -> Result<usize, WriteFault>
         ensures faults { HasCause self.old.faults self.new.faults (IsErr result) }
+        ensures failures { Counts self.old.faults self.new.faults (IsErr result) }
         ensures count { IfOk result (λ n. (n ≤ length bytes.now) × (0 < length bytes.now → 0 < n)) }
         ensures appends { Writes (Some self.old.bytes) (Some self.new.bytes) bytes.now result }
         ensures exact { WritesMemory self.old self.new bytes.now result }

@@ -1,8 +1,8 @@
 //! A store in memory that fails when it is told to.
 
 ghost use Rattle.std.specs.Prelude.{◌≡◌, ◌<◌, ◌^◌, [], ◌∷◌, ◌++◌, OnOk, OnErr};
-ghost use Rattle.jats_io.specs.Causes.{HasCause};
-ghost use Rattle.jats_io.specs.Loads.{Failed, Absent, Loads, put_in};
+ghost use Rattle.jats_io.specs.Causes.{Counts, HasCause};
+ghost use Rattle.jats_io.specs.Loads.{Failed, Absent, Asks, Loads, put_in};
 ghost use Rattle.jats_io.specs.Stored.{LoadsStored};
 
 use crate::sound_store::SoundStore;
@@ -25,13 +25,13 @@ impl Model for MemoryStore {
 
     ghost Value = { Stored };
 
-    ghost view = { λ s. record { files = s.sound.files; failing = s.failing.items; calls = s.calls; faults = s.faults; absences = s.sound.absences } };
+    ghost view = { λ s. record { files = s.sound.files; failing = s.failing.items; calls = s.calls; faults = s.faults; absences = s.sound.absences; asked = s.sound.asked } };
 }
 
 impl MemoryStore {
     /// A store that holds nothing, and of which no load fails.
     pub fn new(alloc: Global) -> MemoryStore
-        ensures { result ≡ record { files = []; failing = []; calls = 0; faults = 0; absences = 0 } }
+        ensures { result ≡ record { files = []; failing = []; calls = 0; faults = 0; absences = 0; asked = [] } }
     {
         MemoryStore {
             sound: SoundStore::new(alloc),
@@ -68,16 +68,24 @@ impl Store for MemoryStore {
 
     ghost absences = { λ s. s.absences };
 
+    ghost asked = { λ s. s.asked };
+
     fn load(&mut self, alloc: Global, name: &Text, limit: usize) -> Result<Loaded, LoadFault>
         requires { limit < 2 ^ 31 }
         ensures keeps { self.new.files ≡ self.old.files }
         ensures faults { HasCause self.old.faults self.new.faults (Failed result) }
         ensures absences { HasCause self.old.absences self.new.absences (Absent result) }
+        ensures failures { Counts self.old.faults self.new.faults (Failed result) }
+        ensures absent { Counts self.old.absences self.new.absences (Absent result) }
+        ensures asked { Asks self.old.asked self.new.asked name.now result }
         ensures told { Loads self.old.files name.now limit result }
         ensures exact { LoadsStored self.old self.new name.now limit result }
     {
         self.calls = self.calls.saturating_add(1);
         if self.failing.contains(&self.calls) {
+            if self.sound.ask(alloc, name).is_err() {
+                return Err(LoadFault::NoMemory);
+            }
             self.faults = self.faults.saturating_add(1);
             return Err(LoadFault::Failed);
         }

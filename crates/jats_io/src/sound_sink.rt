@@ -1,7 +1,7 @@
 //! A sink in memory that does not fail while room is left.
 
 ghost use Rattle.std.specs.Prelude.{◌≡◌, ◌≤◌, ◌<◌, ◌++◌, [], IfOk, IsErr, Some, length};
-ghost use Rattle.jats_io.specs.Causes.{HasCause};
+ghost use Rattle.jats_io.specs.Causes.{Counts, HasCause};
 ghost use Rattle.jats_io.specs.Writes.{Writes};
 ghost use Rattle.jats_io.specs.Written.{SoundBytes, WritesSound};
 
@@ -64,6 +64,7 @@ impl Sink for SoundSink {
     fn write(&mut self, bytes: &[u8]) -> Result<usize, WriteFault>
         ensures made { self.new.made ≡ self.old.made }
         ensures faults { HasCause self.old.faults self.new.faults (IsErr result) }
+        ensures failures { Counts self.old.faults self.new.faults (IsErr result) }
         ensures count { IfOk result (λ n. (n ≤ length bytes.now) × (0 < length bytes.now → 0 < n)) }
         ensures appends { Writes (Some self.old.bytes) (Some self.new.bytes) bytes.now result }
         ensures exact { WritesSound self.old self.new bytes.now result }

@@ -1,8 +1,8 @@
 //! Where files come from.
 
 ghost use Rattle.std.specs.Prelude.{◌≡◌, ℕ, ◌<◌, ◌≤◌, ◌^◌, List, Option, IfSome};
-ghost use Rattle.jats_io.specs.Causes.{HasCause};
-ghost use Rattle.jats_io.specs.Loads.{Failed, Absent, Loads};
+ghost use Rattle.jats_io.specs.Causes.{Counts, HasCause};
+ghost use Rattle.jats_io.specs.Loads.{Failed, Absent, Asks, Loads};
 
 use jats_chars::Text;
 use std::alloc::Global;
@@ -39,13 +39,20 @@ pub trait Store {
     // how often a file was absent
     ghost absences: { Self → ℕ };
 
-    /// The first limit + 1 bytes of the file of this name, or all where there are fewer, for a limit below 2^31.
-    /// `Absent` comes only where the absences rose in this call, and, where the store tells, only where the name is not
-    /// held. `Failed` comes only where the faults rose in this call, and `NoMemory` is want of memory.
+    // the names that were asked for, in order
+    ghost asked: { Self → List (List ℕ) };
+
+    /// The first limit + 1 bytes of the file of this name, or all where there are fewer, for a limit below 2^31. The name
+    /// goes last in the names that were asked for. The absences rise exactly where `Absent` is answered, and the faults
+    /// exactly where `Failed` is. Where the store tells, `Absent` comes only where the name is not held. `NoMemory` is want of
+    /// memory, where the name may not be listed.
     fn load(&mut self, alloc: Global, name: &Text, limit: usize) -> Result<Loaded, LoadFault>
         requires { limit < 2 ^ 31 }
         ensures keeps { holds self.new ≡ holds self.old }
         ensures faults { HasCause (faults self.old) (faults self.new) (Failed result) }
         ensures absences { HasCause (absences self.old) (absences self.new) (Absent result) }
+        ensures failures { Counts (faults self.old) (faults self.new) (Failed result) }
+        ensures absent { Counts (absences self.old) (absences self.new) (Absent result) }
+        ensures asked { Asks (asked self.old) (asked self.new) name.now result }
         ensures told { IfSome (holds self.old) (λ files. Loads files name.now limit result) };
 }

@@ -2,6 +2,7 @@
 use Rattle.std.proofs.Common.{◌≡◌, ◌≤◌, ℕ, Some, None, IfSome, arith}
 use Rattle.std.specs.Prelude.{Option}
 use Rattle.jats_io.specs.Causes.{HasCause}
+use Rattle.jats_io.proofs.Failures.{rose_since}
 
 pub told : {A : Type 0} (o : Option A) (P Q : A → Type 0) → ((a : A) → P a → Q a) → IfSome o P → IfSome o Q
 told None P Q from one = tt
@@ -24,7 +25,7 @@ cause_of before now P Q cause from = record { later = cause.later; risen = λ q.
 pub cause_later : (before mid now : ℕ) (P : Type 0) → before ≤ mid → HasCause mid now P → HasCause before now P
 cause_later before mid now P le cause = record {
   later = (let l = cause.later in omega arith);
-  risen = (λ p. let r = cause.risen p in let l = cause.later in omega arith);
+  risen = λ p. rose_since before mid now le (cause.risen p);
 }
 
 -- what does not happen needs no cause

@@ -55,7 +55,7 @@ module _ (words : List (List ℕ)) (files : Files) (before now : SoundBytes) (re
       let is : now.bytes ≡ before.bytes ++ w.bytes = some_same now.bytes (before.bytes ++ w.bytes) w.appended in
       let all : now.bytes ≡ before.bytes ++ bytes = is ∙ ap (λ b. before.bytes ++ b) (sym same.1) in
       (inl (sym same.0, all), still (omega (arith, simp length-append at (ap length all))))
-  done (unloaded is) = absurd (let rose = k.loads.risen is in omega arith)
+  done (unloaded is) = absurd (elim (k.loads.risen is) [ inl more ↦ omega arith | inr last ↦ omega arith ])
   done (unwritten is) = absurd (
       let w = k.told.cut is in
       let same = one_output words files status w.status bytes w.bytes output w.output in
@@ -63,8 +63,7 @@ module _ (words : List (List ℕ)) (files : Files) (before now : SoundBytes) (re
       let short : length now.bytes ≤ length before.bytes + length bytes = rw (cut, same.1) (grind (arith, common_steps)) in
       let was : before.faults ≡ 0 = k.sound_before (omega arith) in
       let kept = still short in
-      let rose = k.writes.risen is in
-      omega arith
+      elim (k.writes.risen is) [ inl more ↦ omega (arith, was, kept, more) | inr last ↦ omega (arith, was, kept, last) ]
       )
   done (no_memory is) =
       let none : now.bytes ≡ before.bytes = some_same now.bytes before.bytes (k.nothing (inr is)) in

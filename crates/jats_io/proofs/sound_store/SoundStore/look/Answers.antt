@@ -1,23 +1,13 @@
 use Rattle.std.proofs.Common.{refl}
 use Rattle.jats_io.proofs.Entries.{held-files_of}
-use Rattle.jats_io.proofs.sound_store.SoundStoreStore.load.Goals as goal
-use Rattle.jats_io.proofs.sound_store.SoundStoreStore.load.Goals.{in-Ok, in-Err}
-
-pub returns-in-None-clause-told : goal.returns-in-None-clause-told
-returns-in-None-clause-told c = rw (← c.self.view_is, held-files_of, ← c.in-None.ensures.value) refl
+use Rattle.jats_io.proofs.sound_store.SoundStore.look.Goals as goal
+use Rattle.jats_io.proofs.sound_store.SoundStore.look.Goals.{in-Ok, in-Err}
 
 pub returns-in-None-clause-exact : goal.returns-in-None-clause-exact
 returns-in-None-clause-exact c = (
   rw (← c.self.view_is, held-files_of, ← c.in-None.ensures.value) refl,
   rw (← c.self.view_is, c.saturating_add-self-inside.ensures) refl,
 )
-
-pub returns-after-first_bytes-clause-told : goal.returns-after-first_bytes-clause-told
-returns-after-first_bytes-clause-told c =
-    elim c.match-first_bytes.branch [
-      | in-Ok w ↦ rw (w.result-is, ← c.self.view_is, held-files_of, ← c.in-Some.ensures.value, w.in-Ok.ensures) refl
-      | in-Err w ↦ rw w.result-is tt
-    ]
 
 pub returns-after-first_bytes-clause-exact : goal.returns-after-first_bytes-clause-exact
 returns-after-first_bytes-clause-exact c =
