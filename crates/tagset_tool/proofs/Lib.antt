@@ -8,6 +8,7 @@ pub mod Documents
 pub mod Heads
 pub mod Names
 pub mod OneOutput
+pub mod Outcomes
 pub mod Places
 pub mod PlainSets
 pub mod Present

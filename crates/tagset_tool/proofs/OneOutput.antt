@@ -1,8 +1,7 @@
 -- Words and files have one output.
-use Rattle.std.proofs.Common.{◌≡◌, ◌∙◌, ℕ, Bool, true, false, ◌&&◌, List, [], ◌∷◌, ◌++◌, sym, ap, subst, Some, None, Ok, Err, refl, length, nat_lt}
-use Rattle.std.specs.Prelude.{Option, Result, encode_utf8_all}
+use Rattle.std.proofs.Common.{◌≡◌, ◌∙◌, ℕ, Bool, true, false, ◌&&◌, List, [], ◌∷◌, ◌++◌, sym, ap, subst, Some, None, refl}
+use Rattle.std.specs.Prelude.{Option, encode_utf8_all}
 use Rattle.std.specs.List.{AllByRecursion}
-use Rattle.jats_fault.specs.declared.fault.Fault.{Fault}
 use Rattle.content_models.specs.declared.content.Content.{Content}
 use Rattle.attlist_merge.specs.Lists.{Definitions}
 use Rattle.decl_set.specs.Declarations.{Declarations, content_in, attributes_in}
@@ -11,7 +10,13 @@ use Rattle.dtd_flattener.specs.Flat.{flat_text}
 use Rattle.module_reader.specs.Sources.{Files}
 use Rattle.tagset_tool.specs.Plain.{is_plain_set}
 use Rattle.tagset_tool.specs.Verdicts.{IsVerdict, meant}
-use Rattle.tagset_tool.specs.Output.{Asked, check, flatten, compare, asked, set_by, most_written, OverChecked, OverSize, OverFlattened, OverRoot, OverPlain, OverSecond, OverFirst, OverAsked, IsOutput, root_in, verdict_status, verdict_lines}
+use Rattle.tagset_tool.specs.Counts.{count_lines}
+use Rattle.tagset_tool.specs.Outcomes.{IsUnique, after, answering, fitting}
+use Rattle.tagset_tool.specs.Output.{IsOutput, outcome_of, usage_line}
+use Rattle.tagset_tool.specs.Refusals.{form_unbuilt, root_undeclared}
+use Rattle.tagset_tool.specs.Words.{Asked, SetWords, check, flatten, compare, asked, set_by}
+use Rattle.tagset_tool.specs.commands.Compare.{compares, from_root, over_plain, over_sets, root_in, verdict_status, verdict_lines}
+use Rattle.tagset_tool.proofs.Outcomes.{after_unique, answering_unique, fitting_unique, refusing_unique}
 use Rattle.tagset_tool.specs.declared.comparison.Cause.{Cause as Given}
 use Rattle.tagset_tool.specs.declared.comparison.Cause.TheVariants as given
 use Rattle.tagset_tool.specs.declared.comparison.BrokenDecl.{BrokenDecl}
@@ -60,44 +65,27 @@ one_verdict first second root verdict.Subset (verdict.Above e) one other = absur
 one_verdict first second root (verdict.Above d) verdict.Subset one other = absurd (other one.0.0 one.0.1)
 one_verdict first second root (verdict.Above d) (verdict.Above e) one other = ap (λ x. verdict.Above x) (one_broken first second root d e one.1 other.1)
 
-abbrev pub Agree : ℕ → ℕ → List ℕ → List ℕ → Type 0
-Agree s t b c = (s ≡ t) × (b ≡ c)
-
-over_root : (first second : Declarations) (root : List ℕ) (o : Option Content) (s t : ℕ) (b c : List ℕ) → OverRoot first second root o s b → OverRoot first second root o t c → Agree s t b c
-over_root first second root None s t b c one other = (one.0 ∙ sym other.0, one.1 ∙ sym other.1)
-over_root first second root (Some content) s t b c one other =
+root_unique : (first second : Declarations) (root : List ℕ) (o : Option Content) → IsUnique (from_root first second root o)
+root_unique first second root None = refusing_unique (root_undeclared root)
+root_unique first second root (Some content) s t b c one other =
     let same = one_verdict first second root one.verdict other.verdict one.true other.true in
     (one.status_is ∙ ap verdict_status same ∙ sym other.status_is, one.bytes_are ∙ ap verdict_lines same ∙ sym other.bytes_are)
 
-over_plain : (first second : Declarations) (root : List ℕ) (both : Bool) (s t : ℕ) (b c : List ℕ) → OverPlain first second root both s b → OverPlain first second root both t c → Agree s t b c
-over_plain first second root false s t b c one other = (one.0 ∙ sym other.0, one.1 ∙ sym other.1)
-over_plain first second root true s t b c one other = over_root first second root (root_in first root) s t b c one other
+plain_unique : (first second : Declarations) (root : List ℕ) (both : Bool) → IsUnique (over_plain first second root both)
+plain_unique first second root false = refusing_unique form_unbuilt
+plain_unique first second root true = root_unique first second root (root_in first root)
 
-over_second : (first : Declarations) (r : Result Declarations Fault) (root : List ℕ) (s t : ℕ) (b c : List ℕ) → OverSecond first r root s b → OverSecond first r root t c → Agree s t b c
-over_second first (Err refusal) root s t b c one other = (one.0 ∙ sym other.0, one.1 ∙ sym other.1)
-over_second first (Ok second) root s t b c one other = over_plain first second root (is_plain_set first && is_plain_set second) s t b c one other
+compares_unique : (files : Files) (one other : SetWords) (root : List ℕ) → IsUnique (compares files one other root)
+compares_unique files one other root =
+    after_unique (set_by files one) (λ first. after (set_by files other) (λ second. over_sets first second root))
+    (λ first. after_unique (set_by files other) (λ second. over_sets first second root) (λ second. plain_unique first second root (is_plain_set first && is_plain_set second)))
 
-over_first : (r q : Result Declarations Fault) (root : List ℕ) (s t : ℕ) (b c : List ℕ) → OverFirst r q root s b → OverFirst r q root t c → Agree s t b c
-over_first (Err refusal) q root s t b c one other = (one.0 ∙ sym other.0, one.1 ∙ sym other.1)
-over_first (Ok first) q root s t b c one other = over_second first q root s t b c one other
+outcome_unique : (o : Option Asked) (files : Files) → IsUnique (outcome_of o files)
+outcome_unique None files = answering_unique 3 usage_line
+outcome_unique (Some (check words)) files = after_unique (set_by files words) (λ set. answering 0 (count_lines set)) (λ set. answering_unique 0 (count_lines set))
+outcome_unique (Some (flatten words)) files =
+    after_unique (set_by files words) (λ set. fitting 0 (encode_utf8_all (flat_text set))) (λ set. fitting_unique 0 (encode_utf8_all (flat_text set)))
+outcome_unique (Some (compare first second root)) files = compares_unique files first second root
 
-over_checked : (r : Result Declarations Fault) (s t : ℕ) (b c : List ℕ) → OverChecked r s b → OverChecked r t c → Agree s t b c
-over_checked (Err refusal) s t b c one other = (one.0 ∙ sym other.0, one.1 ∙ sym other.1)
-over_checked (Ok set) s t b c one other = (one.0 ∙ sym other.0, one.1 ∙ sym other.1)
-
-over_size : (long : Bool) (text : List ℕ) (s t : ℕ) (b c : List ℕ) → OverSize long text s b → OverSize long text t c → Agree s t b c
-over_size true text s t b c one other = (one.0 ∙ sym other.0, one.1 ∙ sym other.1)
-over_size false text s t b c one other = (one.0 ∙ sym other.0, one.1 ∙ sym other.1)
-
-over_flattened : (r : Result Declarations Fault) (s t : ℕ) (b c : List ℕ) → OverFlattened r s b → OverFlattened r t c → Agree s t b c
-over_flattened (Err refusal) s t b c one other = (one.0 ∙ sym other.0, one.1 ∙ sym other.1)
-over_flattened (Ok set) s t b c one other = over_size (nat_lt most_written (length (encode_utf8_all (flat_text set)))) (encode_utf8_all (flat_text set)) s t b c one other
-
-over_asked : (o : Option Asked) (files : Files) (s t : ℕ) (b c : List ℕ) → OverAsked o files s b → OverAsked o files t c → Agree s t b c
-over_asked None files s t b c one other = (one.0 ∙ sym other.0, one.1 ∙ sym other.1)
-over_asked (Some (check words)) files s t b c one other = over_checked (set_by files words) s t b c one other
-over_asked (Some (flatten words)) files s t b c one other = over_flattened (set_by files words) s t b c one other
-over_asked (Some (compare first second root)) files s t b c one other = over_first (set_by files first) (set_by files second) root s t b c one other
-
-pub one_output : (words : List (List ℕ)) (files : Files) (s t : ℕ) (b c : List ℕ) → IsOutput words files s b → IsOutput words files t c → Agree s t b c
-one_output words files s t b c one other = over_asked (asked words) files s t b c one other
+pub one_output : (words : List (List ℕ)) (files : Files) → IsUnique (IsOutput words files)
+one_output words files = outcome_unique (asked words) files

@@ -1,5 +1,5 @@
 -- Outputs that are not the line of an absent module.
-use Rattle.std.proofs.Common.{◌≡◌, ◌∙◌, ℕ, lit<, Bool, true, false, List, [], ◌∷◌, ◌++◌, Some, None, refl, sym, ap, subst, take, IsTrue, length, nat_lt, map, arith}
+use Rattle.std.proofs.Common.{◌≡◌, ◌∙◌, ℕ, lit<, Bool, true, false, ◌&&◌, List, [], ◌∷◌, ◌++◌, Some, None, refl, sym, ap, subst, take, IsTrue, length, nat_lt, map, arith}
 use Rattle.std.specs.Prelude.{Option, encode_utf8_all}
 use Rattle.std.specs.List.{concat, flat_map}
 use Rattle.std.proofs.Math.Utf8.{encode}
@@ -11,7 +11,9 @@ use Rattle.dtd_flattener.specs.Flat.{Line, written, lines_of, flat_text, list_li
 use Rattle.tagset_tool.specs.declared.comparison.Verdict.{Verdict}
 use Rattle.tagset_tool.specs.declared.comparison.Verdict.TheVariants.{Subset, Above}
 use Rattle.tagset_tool.specs.Counts.{count_lines}
-use Rattle.tagset_tool.specs.Output.{Answers, OverSize, OverText, OverRoot, OverPlain, verdict_lines, most_written, root_in}
+use Rattle.tagset_tool.specs.Outcomes.{answering, fitting, fitting_by, most_written}
+use Rattle.tagset_tool.specs.commands.Compare.{from_root, over_plain, over_sets, verdict_lines, root_in}
+use Rattle.tagset_tool.specs.Plain.{is_plain_set}
 use Rattle.tagset_tool.specs.Refusals.{form_unbuilt, root_undeclared, output_over}
 use Rattle.tagset_tool.specs.Runs.{is_absence}
 use Rattle.tagset_tool.proofs.Heads.{absence_number}
@@ -65,7 +67,7 @@ flat_begins set =
     (lines_begin _ set.entities _ (λ e more. refl)
     (lines_begin _ set.elements _ (λ e more. refl) (lists_begin set.lists)))
 
-size_present : (long : Bool) (text : List ℕ) (status : ℕ) (bytes : List ℕ) → IsPresent text → OverSize long text status bytes → IsPresent bytes
+size_present : (long : Bool) (text : List ℕ) (status : ℕ) (bytes : List ℕ) → IsPresent text → fitting_by long 0 text status bytes → IsPresent bytes
 size_present true text status bytes there over = same_present bytes (line_of output_over) over.1 over_present
 size_present false text status bytes there over = same_present bytes text over.1 there
 
@@ -76,22 +78,25 @@ unfolding count_lines
 counted_present set t = let off : IsTrue false = t in cc
 
 -- counts are no line of an absent module
-pub counts_present : (set : Declarations) (status : ℕ) (bytes : List ℕ) → Answers (count_lines set) status bytes → IsPresent bytes
+pub counts_present : (set : Declarations) (status : ℕ) (bytes : List ℕ) → answering 0 (count_lines set) status bytes → IsPresent bytes
 counts_present set status bytes answers = same_present bytes (count_lines set) answers.1 (counted_present set)
 
 -- nor is a flat text
-pub flat_present : (set : Declarations) (status : ℕ) (bytes : List ℕ) → OverText (encode_utf8_all (flat_text set)) status bytes → IsPresent bytes
+pub flat_present : (set : Declarations) (status : ℕ) (bytes : List ℕ) → fitting 0 (encode_utf8_all (flat_text set)) status bytes → IsPresent bytes
 flat_present set status bytes over = size_present (nat_lt most_written (length (encode_utf8_all (flat_text set)))) (encode_utf8_all (flat_text set)) status bytes (flat_begins set) over
 
 verdict_present : (v : Verdict) → IsPresent (verdict_lines v)
 verdict_present Subset t = let off : IsTrue false = t in cc
 verdict_present (Above broken) t = let off : IsTrue false = t in cc
 
-root_present : (first second : Declarations) (root : List ℕ) (o : Option Content) (status : ℕ) (bytes : List ℕ) → OverRoot first second root o status bytes → IsPresent bytes
+root_present : (first second : Declarations) (root : List ℕ) (o : Option Content) (status : ℕ) (bytes : List ℕ) → from_root first second root o status bytes → IsPresent bytes
 root_present first second root None status bytes over = same_present bytes (line_of (root_undeclared root)) over.1 (undeclared_present root)
 root_present first second root (Some content) status bytes over = same_present bytes (verdict_lines over.verdict) over.bytes_are (verdict_present over.verdict)
 
--- nor is an answer over two sets
-pub plain_present : (first second : Declarations) (root : List ℕ) (both : Bool) (status : ℕ) (bytes : List ℕ) → OverPlain first second root both status bytes → IsPresent bytes
+plain_present : (first second : Declarations) (root : List ℕ) (both : Bool) (status : ℕ) (bytes : List ℕ) → over_plain first second root both status bytes → IsPresent bytes
 plain_present first second root false status bytes over = same_present bytes (line_of form_unbuilt) over.1 unbuilt_present
 plain_present first second root true status bytes over = root_present first second root (root_in first root) status bytes over
+
+-- nor is an answer over two sets
+pub sets_present : (first second : Declarations) (root : List ℕ) (status : ℕ) (bytes : List ℕ) → over_sets first second root status bytes → IsPresent bytes
+sets_present first second root status bytes over = plain_present first second root (is_plain_set first && is_plain_set second) status bytes over

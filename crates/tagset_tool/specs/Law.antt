@@ -1,17 +1,23 @@
 -- What the first line of an output says of the documents.
-use Rattle.std.specs.Prelude.{◌≡◌, ℕ, ◌⊎◌, List, Some, Ok, IsSome, IsTrue}
+use Rattle.std.specs.Prelude.{◌≡◌, ◌↔◌, ℕ, ◌⊎◌, List, Some, Ok, IsSome, IsTrue, nat_eq}
+use Rattle.std.specs.List.{starts_with}
 use Rattle.decl_set.specs.Declarations.{Declarations}
 use Rattle.document_trees.specs.Trees.{Node}
 use Rattle.decl_set.specs.Validity.{IsSeparating, IsSubset}
 use Rattle.module_reader.specs.Sources.{Files}
-use Rattle.tagset_tool.specs.Output.{SetWords, compare, asked, set_by, IsOutput, root_in}
+use Rattle.tagset_tool.specs.Outcomes.{IsUnique}
+use Rattle.tagset_tool.specs.Output.{IsOutput}
+use Rattle.tagset_tool.specs.Words.{SetWords, compare, asked, set_by}
+use Rattle.tagset_tool.specs.commands.Compare.{root_in, subset_line}
 use Rattle.tagset_tool.specs.Plain.{is_plain_set}
 
--- status 0 where no document separates, and only there; status 1 where one does, and only there
-pub record SaysSubset (first second : Declarations) (root : List ℕ) (status : ℕ) : Type 0 where
+-- Status 0 where no document separates, and only there; status 1 where one does, and only there. The first line is `subset`
+-- exactly at status 0.
+pub record SaysSubset (first second : Declarations) (root : List ℕ) (status : ℕ) (bytes : List ℕ) : Type 0 where
   pub subset : status ≡ 0 → IsSubset first second root
   pub separate : status ≡ 1 → (node : Node) × IsSeparating first second root node
   pub one_of : (status ≡ 0) ⊎ (status ≡ 1)
+  pub first_line : (status ≡ 0) ↔ IsTrue (starts_with nat_eq bytes subset_line)
 
 -- words ask to compare two sets, which are read and plain, and the first declares the root
 pub record IsCompared (words : List (List ℕ)) (files : Files) (first second : Declarations) (root : List ℕ) : Type 0 where
@@ -26,8 +32,8 @@ pub record IsCompared (words : List (List ℕ)) (files : Files) (first second : 
 
 abbrev pub SubsetLaw : Type 0
 SubsetLaw = (words : List (List ℕ)) (files : Files) (first second : Declarations) (root : List ℕ) (status : ℕ) (bytes : List ℕ)
-    → IsCompared words files first second root → IsOutput words files status bytes → SaysSubset first second root status
+    → IsCompared words files first second root → IsOutput words files status bytes → SaysSubset first second root status bytes
 
 -- words and files have one output
 abbrev pub OutputLaw : Type 0
-OutputLaw = (words : List (List ℕ)) (files : Files) (status other : ℕ) (bytes more : List ℕ) → IsOutput words files status bytes → IsOutput words files other more → (status ≡ other) × (bytes ≡ more)
+OutputLaw = (words : List (List ℕ)) (files : Files) → IsUnique (IsOutput words files)

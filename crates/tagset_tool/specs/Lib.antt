@@ -1,6 +1,8 @@
+pub mod commands
 pub mod Checks
 pub mod Counts
 pub mod Law
+pub mod Outcomes
 pub mod Output
 pub mod Plain
 pub mod Reached
@@ -8,3 +10,4 @@ pub mod Refusals
 pub mod Runs
 pub mod Sound
 pub mod Verdicts
+pub mod Words

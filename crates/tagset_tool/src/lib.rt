@@ -2,12 +2,14 @@
 //!
 //! `run` takes the words of the command line, a store of files and a sink for the output. It reads the words, reads the
 //! sets that they name, answers, and writes the whole answer once. `specs/Output.antt` says which status and which bytes
-//! the answer to words over files has; `specs/Counts.antt` what `check` counts; `specs/Verdicts.antt` says what a comparison
-//! of two sets answers, over all documents. Which set the files stand for is said by `module_reader`, and what its flat text
+//! the answer to words over files has, command by command: what `src/commands/NAME.rt` answers is said by
+//! `specs/commands/NAME.antt`, by the outcomes of `specs/Outcomes.antt`. `specs/Verdicts.antt` says what a comparison of two sets
+//! answers, over all documents. Which set the files stand for is said by `module_reader`, and what its flat text
 //! is by `dtd_flattener`.
 #![tactic(auto)]
 
 mod answer;
+mod commands;
 mod comparison;
 mod counts;
 mod laws;

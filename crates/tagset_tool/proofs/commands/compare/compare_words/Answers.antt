@@ -1,15 +1,15 @@
 use Rattle.std.proofs.Common.{arith}
 use Rattle.tagset_tool.proofs.Causes.{no_cause}
-use Rattle.tagset_tool.proofs.Present.{plain_present}
-use Rattle.tagset_tool.specs.Output.{set_words, word}
+use Rattle.tagset_tool.proofs.Present.{sets_present}
+use Rattle.tagset_tool.specs.Words.{set_words, word}
 use Rattle.tagset_tool.proofs.Asked.{seven_words, word_at, told_compared}
-use Rattle.tagset_tool.proofs.top.compare_words.Goals as goal
+use Rattle.tagset_tool.proofs.commands.compare.compare_words.Goals as goal
 
 pub returns-in-Ok-compared-clause-absences : goal.returns-in-Ok-compared-clause-absences
 returns-in-Ok-compared-clause-absences g c =
     let first = c.read_words.ensures.absences.later in
     let second = c.read_words-2.ensures.absences.later in
-    no_cause _ _ _ (omega arith) (plain_present _ _ _ _ c.in-Ok-compared.answer.status c.in-Ok-compared.answer.bytes.items c.in-Ok-compared.ensures)
+    no_cause _ _ _ (omega arith) (sets_present _ _ _ c.in-Ok-compared.answer.status c.in-Ok-compared.answer.bytes.items c.in-Ok-compared.ensures)
 
 pub returns-in-Ok-compared-clause-told : goal.returns-in-Ok-compared-clause-told
 returns-in-Ok-compared-clause-told g c =

@@ -1,0 +1,51 @@
+-- What words ask for.
+use Rattle.std.specs.Prelude.{ℕ, ◌+◌, Bool, ◌==◌, ◌&&◌, List, [], length, Option, Some, None, Result, bytes_eq, codes, slice_index_or, if◌then◌else◌}
+use Rattle.jats_fault.specs.declared.fault.Fault.{Fault}
+use Rattle.decl_set.specs.Declarations.{Declarations}
+use Rattle.module_reader.specs.Sets.{set_of}
+use Rattle.module_reader.specs.Sources.{Files}
+
+-- what names a set: the file of a catalog, where there is one, and the entry
+pub record SetWords : Type 0 where
+  pub catalog : Option (List ℕ)
+  pub entry : List ℕ
+
+-- what words ask for
+pub data Asked : Type 0 where
+  check : SetWords → Asked
+  flatten : SetWords → Asked
+  compare : (first second : SetWords) (root : List ℕ) → Asked
+
+abbrev pub word : List (List ℕ) → ℕ → List ℕ
+word words k = slice_index_or words k []
+
+-- `-` names no catalog
+abbrev pub catalog_word : List ℕ → Option (List ℕ)
+catalog_word word = if bytes_eq word (codes "-") then None else Some word
+
+-- the catalog at a place of the words, and the entry behind it
+abbrev pub set_words : List (List ℕ) → ℕ → SetWords
+set_words words k = record { catalog = catalog_word (word words k); entry = word words (k + 1) }
+
+-- check CATALOG ENTRY
+abbrev pub is_check : List (List ℕ) → Bool
+is_check words = length words == 3 && bytes_eq (word words 0) (codes "check")
+
+-- flatten CATALOG ENTRY
+abbrev pub is_flatten : List (List ℕ) → Bool
+is_flatten words = length words == 3 && bytes_eq (word words 0) (codes "flatten")
+
+-- compare CATALOG1 FIRST CATALOG2 SECOND ROOT 0
+abbrev pub is_compare : List (List ℕ) → Bool
+is_compare words = length words == 7 && (bytes_eq (word words 0) (codes "compare") && bytes_eq (word words 6) (codes "0"))
+
+abbrev pub asked : List (List ℕ) → Option Asked
+asked words =
+    if is_check words then Some (check (set_words words 1))
+    else if is_flatten words then Some (flatten (set_words words 1))
+    else if is_compare words then Some (compare (set_words words 1) (set_words words 3) (word words 5))
+    else None
+
+-- the set that words name, or the first refusal
+abbrev pub set_by : Files → SetWords → Result Declarations Fault
+set_by files words = set_of files words.catalog words.entry
