@@ -1,8 +1,9 @@
 -- Rows of code points: what a row bounds, and rows within rows (XML 1.0, 2.2 and 2.3).
-use Rattle.std.proofs.Common.{◌≡◌, ◌≤◌, ℕ, Bool, true, false, ◌||◌, ◌&&◌, List, [], ◌∷◌, refl, arith, ⊎_elim}
+use Rattle.std.proofs.Common.{◌≡◌, ◌≤◌, ℕ, Bool, true, false, ◌&&◌, List, [], ◌∷◌, refl, arith, ⊎_elim}
 use Rattle.std.specs.Prelude.{nat_le}
 use Rattle.std.specs.List.{list_any, list_all}
 use Rattle.std.proofs.lemmas.Bool.{both_ways, and_parts, and_from, or_cases, or_left, or_right, le-leb, leb-true}
+use Rattle.jats_chars.specs.Chars.{are_chars}
 use Rattle.jats_chars.specs.Classes.{Rows, in_row, in_rows, char_rows, space_rows, name_start_rows, name_more_rows, pubid_rows, is_char, is_space, is_name_start, is_name_char, is_pubid_char}
 use Rattle.jats_chars.specs.Names.{is_name, is_nmtoken}
 
@@ -62,11 +63,11 @@ pubid_char_is_char c h = within_all pubid_rows char_rows c refl h
 
 -- ---- words
 
-all_chars : (w : List ℕ) → list_all is_name_char w ≡ true → list_all is_char w ≡ true
+all_chars : (w : List ℕ) → list_all is_name_char w ≡ true → are_chars w ≡ true
 all_chars [] h = refl
 all_chars (c ∷ w) h =
     let p = and_parts (is_name_char c) (list_all is_name_char w) h in
-    and_from (is_char c) (list_all is_char w) (name_char_is_char c p.0) (all_chars w p.1)
+    and_from (is_char c) (are_chars w) (name_char_is_char c p.0) (all_chars w p.1)
 
 -- a Name is of name characters
 pub name_of_name_chars : (w : List ℕ) → is_name w ≡ true → list_all is_name_char w ≡ true
@@ -76,10 +77,10 @@ name_of_name_chars (c ∷ w) h =
     and_from (is_name_char c) (list_all is_name_char w) (start_is_name_char c p.0) p.1
 
 -- a Name is of Chars
-pub name_of_chars : (w : List ℕ) → is_name w ≡ true → list_all is_char w ≡ true
+pub name_of_chars : (w : List ℕ) → is_name w ≡ true → are_chars w ≡ true
 name_of_chars w h = all_chars w (name_of_name_chars w h)
 
 -- an Nmtoken is of Chars
-pub nmtoken_of_chars : (w : List ℕ) → is_nmtoken w ≡ true → list_all is_char w ≡ true
+pub nmtoken_of_chars : (w : List ℕ) → is_nmtoken w ≡ true → are_chars w ≡ true
 nmtoken_of_chars [] h = absurd (both_ways false refl h)
 nmtoken_of_chars (c ∷ w) h = all_chars (c ∷ w) h
