@@ -5,4 +5,5 @@ pub mod Cuts
 pub mod Free
 pub mod Cells
 pub mod Uncovering
+pub mod OfChars
 mod Examples

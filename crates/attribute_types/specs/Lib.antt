@@ -4,3 +4,4 @@ pub mod Types
 pub mod Proper
 pub mod Covers
 pub mod Table
+pub mod Chars

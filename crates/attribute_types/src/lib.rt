@@ -12,6 +12,7 @@
 
 mod classes;
 mod covering;
+mod laws;
 mod spacing;
 #[cfg(test)]
 mod tests;
@@ -19,5 +20,6 @@ mod types;
 
 pub use classes::{ValueClass, class_of, in_class, sample};
 pub use covering::{covers, uncovered};
+pub use laws::chars_law;
 pub use spacing::collapse;
 pub use types::{AttType, Preset};

@@ -1,4 +1,5 @@
 pub mod Ends
 pub mod Pieces
 pub mod Plain
+pub mod Rows
 pub mod Suffixes

@@ -1,3 +1,4 @@
+pub mod Chars
 pub mod Classes
 pub mod Decoded
 pub mod Names

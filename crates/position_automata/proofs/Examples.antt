@@ -1,15 +1,16 @@
 -- Examples of the definitions.
-use Rattle.std.proofs.Common.{◌≡◌, ◌≤◌, ◌+◌, ℕ, zero, suc, [], ◌∷◌, get_or, inl, inr, refl, sym, ap, ◌∙◌, subst, arith}
+use Rattle.std.proofs.Common.{◌≡◌, ◌≤◌, ◌+◌, ℕ, zero, suc, [], ◌∷◌, get_or, Some, None, false, inl, inr, refl, sym, ap, ◌∙◌, subst, arith}
 use Rattle.content_models.specs.declared.content.Occurs.TheVariants.{Once}
 use Rattle.content_models.specs.declared.content.Particle.{Particle}
 use Rattle.content_models.specs.declared.content.Particle.TheVariants.{One, Seq, Choice}
-use Rattle.content_models.specs.declared.content.Content.TheVariants.{Mixed, Children}
+use Rattle.content_models.specs.declared.content.Content.TheVariants.{Empty, Any, Mixed, Children}
 use Rattle.content_models.specs.Model.{Chars, model}
 use Rattle.content_models.specs.Re.{Re, Eps, Sym, Cat, Alt}
 use Rattle.content_models.proofs.Layers.{model-One, model-Seq, model-Choice}
 use Rattle.position_automata.specs.Automata.{states, FollowsOn, Accepts, IsDeterministic, IsAmbiguous}
 use Rattle.position_automata.specs.Marked.{count, IsMarked, Follows, AcceptsAt}
-use Rattle.position_automata.specs.Places.{letters}
+use Rattle.position_automata.specs.Places.{letters, nullable}
+use Rattle.position_automata.specs.Stepping.{does_accept, model_steps, steps_of, step_on}
 use Rattle.position_automata.proofs.Meaning.{StandsAt, follows_at}
 
 abbrev a : Chars
@@ -52,6 +53,25 @@ follows_on = subst (λ (r : Re Chars). Follows r 1 b 2) (sym one_of_two_is) ((1,
 -- and a list may end with it
 accepts : Accepts (Children one_of_two) 2
 accepts = subst (λ (r : Re Chars). AcceptsAt r 2) (sym one_of_two_is) ((1, a) ∷ (2, b) ∷ [], marked, refl)
+
+-- after a come b and c, by position
+two_steps : steps_of (Children one_of_two) 1 ≡ (b, 2) ∷ (c, 3) ∷ []
+two_steps = ap (λ r. model_steps r 1) one_of_two_is
+
+mixed_steps : steps_of (Mixed (b ∷ a ∷ [])) 0 ≡ (b, 0) ∷ (a, 0) ∷ []
+mixed_steps = refl
+
+mixed_step : step_on (Mixed (b ∷ a ∷ [])) 0 c ≡ None
+mixed_step = refl
+
+any_step : step_on Any 0 c ≡ Some 0
+any_step = refl
+
+empty_step : step_on Empty 0 c ≡ None
+empty_step = refl
+
+not_at_once : does_accept (Children one_of_two) 0 ≡ false
+not_at_once = ap (λ r. nullable r) one_of_two_is
 
 -- ((a,b)|(a,c))
 abbrev two_ways : Particle

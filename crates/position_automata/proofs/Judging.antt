@@ -20,10 +20,11 @@ use Rattle.position_automata.specs.Judged.{states_of, name_at, positions_after, 
 use Rattle.position_automata.specs.Marked.{count, Deterministic, Follows}
 use Rattle.position_automata.specs.Places.{letters, pairs}
 use Rattle.position_automata.specs.Rows.{targets}
+use Rattle.position_automata.specs.Stepping.{model_steps}
 use Rattle.position_automata.specs.Tables.{Builds}
 use Rattle.position_automata.specs.declared.fault.BuildFault.TheVariants.{Ambiguous}
 use Rattle.position_automata.proofs.Following.{follows_none}
-use Rattle.position_automata.proofs.Meaning.{row_to, row_from, follows_at, follows_within, length-letters, member_of, contains_of}
+use Rattle.position_automata.proofs.Meaning.{row_to, row_from, follows_at, follows_within, length-letters, to_member, contains_of}
 use Rattle.position_automata.proofs.Rising.{rises_of, filter_to, filter_from, in_range, range_rises}
 use Rattle.position_automata.proofs.Run.{deterministic_iff_one-step}
 use Rattle.position_automata.proofs.Shared.{Shares, shares}
@@ -56,20 +57,22 @@ clash_from r a zero = λ i h l. absurd (omega arith)
 clash_from r a (suc n) = clash_more r a n (clash_of r a) (first_clash r (range_with_len (a + 1) n)) refl (clash_from r (a + 1) n)
 
 module _ (r : Re Chars) where
-  after_to : (i j : ℕ) → Member j (positions_after r i) → Follows r i (name_at (letters r) j) j
+  -- the positions after a state follow it, each on its name
+  pub after_to : (i j : ℕ) → Member j (positions_after r i) → Follows r i (name_at (letters r) j) j
   after_to i j m =
       let t = filter_to (λ j. list_any (nat_eq j) (targets i (pairs r))) (range_with_len 1 (count r)) j m in
       let f = row_to r i j (Contains-from_any eqb-true j (targets i (pairs r)) t.1) in
       subst (λ (a : Chars). Follows r i a j) (sym (name_of r i j f.0 f.1)) f.1
 
-  after_from : (i j : ℕ) (a : Chars) → Follows r i a j → Member j (positions_after r i)
+  -- and each that follows is one of them
+  pub after_from : (i j : ℕ) (a : Chars) → Follows r i a j → Member j (positions_after r i)
   after_from i j a f =
       let s = follows_at r i j a f in
       filter_from (λ j. list_any (nat_eq j) (targets i (pairs r))) (range_with_len 1 (count r)) j
       (in_range 1 (count r) j (omega (arith, s.1)) (omega (arith, s.1, s.2, length-letters r)))
       (list_any-from_Contains nat_eq_equiv j (targets i (pairs r)) (row_from r i j a f))
 
-  after_rises : (i : ℕ) → IsStrictlyIncreasing (positions_after r i)
+  pub after_rises : (i : ℕ) → IsStrictlyIncreasing (positions_after r i)
   after_rises i = IsStrictlyIncreasing-filter (λ j. list_any (nat_eq j) (targets i (pairs r))) (range_with_len 1 (count r)) (range_rises 1 (count r))
 
   clash_is : (i : ℕ) → Shares (letters r) (positions_after r i) (clash_of r i)
@@ -106,22 +109,15 @@ named_from names [] j m = elim m [ ]
 named_from names (k ∷ js) j (inl e) = inl (ap (λ i. (name_at names i, i)) e)
 named_from names (k ∷ js) j (inr m) = inr (named_from names js j m)
 
--- the steps of a state
-abbrev row : Re Chars → ℕ → List (Chars × ℕ)
-row r i = map (λ j. (name_at (letters r) j, j)) (positions_after r i)
-
-to_member : {A : Type 0} (xs : List A) (x : A) → Contains xs x → Member x xs
-to_member xs x c = member_of xs x c.0 c.1 c.2
-
-row_to_follows : (r : Re Chars) (i : ℕ) (name : Chars) (j : ℕ) → Contains (row r i) (name, j) → Follows r i name j
-row_to_follows r i name j c =
-    let t = named_to (letters r) (positions_after r i) name j (to_member (row r i) (name, j) c) in
+pub follows_of_step : (r : Re Chars) (i : ℕ) (name : Chars) (j : ℕ) → Contains (model_steps r i) (name, j) → Follows r i name j
+follows_of_step r i name j c =
+    let t = named_to (letters r) (positions_after r i) name j (to_member (model_steps r i) (name, j) c) in
     subst (λ (a : Chars). Follows r i a j) (sym t.1) (after_to r i j t.0)
 
-row_of_follows : (r : Re Chars) (i : ℕ) (name : Chars) (j : ℕ) → Follows r i name j → Contains (row r i) (name, j)
-row_of_follows r i name j f =
-    contains_of (row r i) (name, j)
-    (subst (λ (a : Chars). Member (a, j) (row r i)) (name_of r i j name f)
+pub step_of_follows : (r : Re Chars) (i : ℕ) (name : Chars) (j : ℕ) → Follows r i name j → Contains (model_steps r i) (name, j)
+step_of_follows r i name j f =
+    contains_of (model_steps r i) (name, j)
+    (subst (λ (a : Chars). Member (a, j) (model_steps r i)) (name_of r i j name f)
     (named_from (letters r) (positions_after r i) j (after_from r i j name f)))
 
 mixed_follows : (listed : List Chars) → IsFollows (Mixed listed) (length listed)
@@ -133,27 +129,27 @@ mixed_follows listed =
       omega (arith, length-map listed f, sum_by-cons length (map f listed) []),
     )
 
-steps_are : (part : Particle) (i : ℕ) → IsSteps (Children part) i (row (model part) i)
+pub steps_are : (part : Particle) (i : ℕ) → IsSteps (Children part) i (model_steps (model part) i)
 steps_are part i =
     let r = model part in (
       subst IsStrictlyIncreasing (sym (positions_in (letters r) (positions_after r i))) (after_rises r i),
-      (λ name j. (row_to_follows r i name j, row_of_follows r i name j)),
+      (λ name j. (follows_of_step r i name j, step_of_follows r i name j)),
     )
 
-sum_is : (r : Re Chars) (is : List ℕ) → sum_by (λ i. length (positions_after r i)) is ≡ sum_by length (map (row r) is)
+sum_is : (r : Re Chars) (is : List ℕ) → sum_by (λ i. length (positions_after r i)) is ≡ sum_by length (map (model_steps r) is)
 sum_is r [] = refl
 sum_is r (i ∷ is) =
     sum_by-cons (λ i. length (positions_after r i)) i is
     ∙ ap (λ n. n + sum_by (λ i. length (positions_after r i)) is) (sym (length-map (positions_after r i) (λ j. (name_at (letters r) j, j))))
-    ∙ ap (λ n. length (row r i) + n) (sum_is r is)
-    ∙ sym (sum_by-cons length (row r i) (map (row r) is))
+    ∙ ap (λ n. length (model_steps r i) + n) (sum_is r is)
+    ∙ sym (sum_by-cons length (model_steps r i) (map (model_steps r) is))
 
 follows_are : (part : Particle) → IsFollows (Children part) (follows_in_model (model part))
 follows_are part =
     let r = model part in (
-      map (row r) (states_of r),
-      length-map-range_with_len (row r) 0 (1 + count r),
-      (λ i h. subst (IsSteps (Children part) i) (sym (get_or-map-range_with_len (row r) 0 (1 + count r) i i [] h (omega arith))) (steps_are part i)),
+      map (model_steps r) (states_of r),
+      length-map-range_with_len (model_steps r) 0 (1 + count r),
+      (λ i h. subst (IsSteps (Children part) i) (sym (get_or-map-range_with_len (model_steps r) 0 (1 + count r) i i [] h (omega arith))) (steps_are part i)),
       sum_is r (states_of r),
     )
 

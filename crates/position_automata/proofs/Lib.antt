@@ -21,6 +21,7 @@ pub mod Running
 pub mod Shared
 pub mod Spelling
 pub mod States
+pub mod Stepping
 pub mod Steps
 pub mod Tabled
 pub mod Telling

@@ -19,6 +19,9 @@ member_of [] x k h e = absurd (omega arith)
 member_of (y ∷ xs) x zero h e = inl (sym e)
 member_of (y ∷ xs) x (suc k) h e = inr (member_of xs x k (omega arith) e)
 
+pub to_member : {A : Type 0} (xs : List A) (x : A) → Contains xs x → Member x xs
+to_member xs x c = member_of xs x c.0 c.1 c.2
+
 pub contains_of : {A : Type 0} (xs : List A) (x : A) → Member x xs → Contains xs x
 contains_of [] x m = elim m [ ]
 contains_of (y ∷ xs) x (inl e) = (0, omega arith, sym e)

@@ -5,7 +5,7 @@ use Rattle.std.specs.List.Sorted.{IsStrictlyIncreasing}
 use Rattle.std.proofs.lemmas.Bool.{cases_Bool, cases_eq}
 use Rattle.std.proofs.lemmas.List.FromFn.{length-range_with_len, get_or-range_with_len}
 use Rattle.std.proofs.lemmas.List.Kept.{AllPairs-from_increasing}
-use Rattle.position_automata.proofs.Words.{Member}
+use Rattle.position_automata.proofs.Words.{Member, mapped}
 
 -- each number is above the one before, and the first at least b
 abbrev pub Rises : ℕ → List ℕ → Type 0
@@ -27,13 +27,8 @@ at_or_above b [] r x m = elim m [ ]
 at_or_above b (y ∷ ys) r x (inl e) = omega (arith, r.0)
 at_or_above b (y ∷ ys) r x (inr m) = let t : y + 1 ≤ x = at_or_above (y + 1) ys r.1 x m in omega (arith, r.0)
 
-member_map : {A B : Type 0} (f : A → B) (xs : List A) (x : A) → Member x xs → Member (f x) (map f xs)
-member_map f [] x m = elim m [ ]
-member_map f (y ∷ ys) x (inl e) = inl (ap f e)
-member_map f (y ∷ ys) x (inr m) = inr (member_map f ys x m)
-
 above_second : {A : Type 0} (b : ℕ) (xs : List (A × ℕ)) → Rises b (map (λ s. s.1) xs) → (x : A × ℕ) → Member x xs → b ≤ x.1
-above_second b xs r x m = at_or_above b (map (λ s. s.1) xs) r x.1 (member_map (λ s. s.1) xs x m)
+above_second b xs r x m = at_or_above b (map (λ s. s.1) xs) r x.1 (mapped (λ s. s.1) xs x m)
 
 first_same : {A : Type 0} (b : ℕ) (x y : A × ℕ) (xs ys : List (A × ℕ)) → Rises b (map (λ s. s.1) (x ∷ xs)) → Rises b (map (λ s. s.1) (y ∷ ys))
     → Member x (y ∷ ys) → Member y (x ∷ xs) → x ≡ y

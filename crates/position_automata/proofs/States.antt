@@ -1,12 +1,14 @@
 -- The states of a content decide what it derives.
 use Rattle.std.proofs.Common.{◌≡◌, List, [], ◌∷◌, ℕ, Bool, true, false, ◌&&◌, refl, sym, ◌∙◌, subst, IsTrue, true≢false}
 use Rattle.std.specs.List.{list_all}
+use Rattle.content_models.specs.declared.content.Content.{Content}
 use Rattle.content_models.specs.declared.content.Content.TheVariants.{Empty, Any, Mixed, Children}
 use Rattle.content_models.specs.declared.content.Particle.{Particle}
-use Rattle.content_models.specs.Model.{Chars, model, among}
-use Rattle.position_automata.specs.Automata.{Leads, Way}
+use Rattle.content_models.specs.Model.{Chars, Derives, model, among}
+use Rattle.position_automata.specs.Automata.{Leads, Way, Accepts}
 use Rattle.position_automata.specs.Marked.{Path}
 use Rattle.position_automata.specs.Laws.{DerivesByStates, LeadsByWays, OneStateFollows}
+use Rattle.position_automata.specs.Runs.{Runs, DerivesByRuns}
 use Rattle.position_automata.proofs.Run.{leads_iff_path, generates_iff_runs, deterministic_iff_one-step}
 
 both : (a b : Bool) → IsTrue (a && b) → IsTrue a × IsTrue b
@@ -76,3 +78,26 @@ one_state_follows Empty = ((λ h i j k name f g. absurd f), (λ h. tt))
 one_state_follows Any = ((λ h i j k name f g. f.1 ∙ sym g.1), (λ h. tt))
 one_state_follows (Mixed listed) = ((λ h i j k name f g. f.2 ∙ sym g.2), (λ h. tt))
 one_state_follows (Children part) = deterministic_iff_one-step (model part)
+
+-- ---- from a state to acceptance
+
+pub runs-of_way : (content : Content) (i j : ℕ) (names : List Chars) → Way content i names j → Accepts content j → Runs content i names
+runs-of_way content i j [] w a = subst (Accepts content) (sym w) a
+runs-of_way content i j (name ∷ names) w a = (w.0, w.1, runs-of_way content w.0 j names w.2 a)
+
+pub way-of_runs : (content : Content) (i : ℕ) (names : List Chars) → Runs content i names → (j : ℕ) × Way content i names j × Accepts content j
+way-of_runs content i [] r = (i, refl, r)
+way-of_runs content i (name ∷ names) r = let t = way-of_runs content r.0 names r.2 in (t.0, (r.0, r.1, t.1), t.2)
+
+runs-of : (content : Content) (names : List Chars) → Derives content names → Runs content 0 names
+runs-of content names d =
+    let t = (derives_by_states content names).0 d in
+    runs-of_way content 0 t.0 names ((leads_by_ways content names t.0).0 t.1) t.2
+
+derives-of : (content : Content) (names : List Chars) → Runs content 0 names → Derives content names
+derives-of content names r =
+    let t = way-of_runs content 0 names r in
+    (derives_by_states content names).1 (t.0, (leads_by_ways content names t.0).1 t.1, t.2)
+
+pub derives_by_runs : DerivesByRuns
+derives_by_runs content names = (runs-of content names, derives-of content names)

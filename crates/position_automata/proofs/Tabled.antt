@@ -73,14 +73,14 @@ simple_table (Mixed listed) names keys rows accepting proper s n k e f = record 
 }
 simple_table (Children part) names keys rows accepting proper s n k e f = elim s [ ]
 
-any_member : (i : ℕ) (xs : List ℕ) → list_any (nat_eq i) xs ≡ true → Member i xs
+pub any_member : (i : ℕ) (xs : List ℕ) → list_any (nat_eq i) xs ≡ true → Member i xs
 any_member i [] h = absurd (true≢false (sym h))
 any_member i (x ∷ xs) h = elim (or_cases (nat_eq i x) (list_any (nat_eq i) xs) h) [
   | inl e ↦ inl (eqb-true i x e)
   | inr e ↦ inr (any_member i xs e)
 ]
 
-member_any : (i : ℕ) (xs : List ℕ) → Member i xs → list_any (nat_eq i) xs ≡ true
+pub member_any : (i : ℕ) (xs : List ℕ) → Member i xs → list_any (nat_eq i) xs ≡ true
 member_any i [] m = elim m [ ]
 member_any i (x ∷ xs) (inl e) = or_left (nat_eq i x) (list_any (nat_eq i) xs) (eq-eqb i x e)
 member_any i (x ∷ xs) (inr m) = or_right (nat_eq i x) (list_any (nat_eq i) xs) (member_any i xs m)

@@ -1,5 +1,5 @@
 -- The steps that are told of a state.
-use Rattle.std.proofs.Common.{◌≡◌, ◌<◌, ◌+◌, ◌-◌, ◌==◌, ℕ, List, [], ◌∷◌, get_or, map, cond, Bool, false, Option, Some, None, refl, sym, ap, ◌∙◌, subst, arith, Contains, inl, inr, slice_get}
+use Rattle.std.proofs.Common.{◌≡◌, ◌<◌, ◌+◌, ◌-◌, ◌==◌, ℕ, List, [], ◌∷◌, get_or, map, cond, Bool, false, Option, Some, None, refl, sym, ap, ◌∙◌, subst, arith, Contains, slice_get}
 use Rattle.std.specs.Option.{option_map}
 use Rattle.std.specs.List.Sorted.{IsStrictlyIncreasing}
 use Rattle.std.proofs.lemmas.Bool.{ne_eqb}
@@ -16,7 +16,7 @@ use Rattle.position_automata.specs.Places.{letters, pairs}
 use Rattle.position_automata.specs.Rows.{targets, numbers_of, number_at, IsRow, at_position}
 use Rattle.position_automata.specs.Tables.{IsTable}
 use Rattle.position_automata.proofs.Meaning.{row_to, row_from, StandsAt, follows_at, member_of, contains_of}
-use Rattle.position_automata.proofs.Words.{Member}
+use Rattle.position_automata.proofs.Words.{Member, mapped, unmapped}
 
 -- the step of an entry
 abbrev pub step_of : List Chars → ℕ × ℕ → Chars × ℕ
@@ -31,16 +31,6 @@ name_is : (names : List Chars) (j : ℕ) (a : Chars) → StandsAt 1 names j a �
 name_is names j a s =
     let e : j - 1 ≡ s.0 = omega (arith, s.1) in
     ap (λ m. get_or names m []) e ∙ get_or_default names s.0 [] a s.2 ∙ s.3
-
-mapped : (f : ℕ × ℕ → Chars × ℕ) (row : List (ℕ × ℕ)) (x : ℕ × ℕ) → Member x row → Member (f x) (map f row)
-mapped f [] x m = elim m [ ]
-mapped f (s ∷ row) x (inl e) = inl (ap f e)
-mapped f (s ∷ row) x (inr m) = inr (mapped f row x m)
-
-unmapped : (f : ℕ × ℕ → Chars × ℕ) (row : List (ℕ × ℕ)) (y : Chars × ℕ) → Member y (map f row) → (x : ℕ × ℕ) × Member x row × (y ≡ f x)
-unmapped f [] y m = elim m [ ]
-unmapped f (s ∷ row) y (inl e) = (s, inl refl, e)
-unmapped f (s ∷ row) y (inr m) = let t = unmapped f row y m in (t.0, inr t.1, t.2)
 
 module _ (r : Re Chars) (numbers : List ℕ) (i : ℕ) (row : List (ℕ × ℕ)) (R : IsRow numbers (targets i (pairs r)) row) where
   entry : (x : ℕ × ℕ) → Member x row → (a : Chars) × Follows r i a x.1

@@ -1,5 +1,5 @@
 -- A content has one judgement.
-use Rattle.std.proofs.Common.{◌≡◌, ◌<◌, ◌≤◌, ◌-◌, ℕ, List, [], length, get_or, map, Result, Ok, Err, inl, inr, sym, ap, ◌∙◌, subst, arith, Contains}
+use Rattle.std.proofs.Common.{◌≡◌, ◌<◌, ◌≤◌, ◌-◌, ℕ, List, [], length, get_or, map, Result, Ok, Err, inl, inr, sym, ap, ◌∙◌, subst, arith}
 use Rattle.std.specs.List.{sum_by}
 use Rattle.std.proofs.lemmas.Bool.{cases_order}
 use Rattle.std.proofs.lemmas.List.{ext_get_or, get_or_default}
@@ -12,10 +12,9 @@ use Rattle.position_automata.specs.Automata.{states, IsDeterministic, IsSteps, I
 use Rattle.position_automata.specs.Judged.{Judges, name_at}
 use Rattle.position_automata.specs.Marked.{Follows}
 use Rattle.position_automata.specs.Places.{letters}
-use Rattle.position_automata.proofs.Meaning.{follows_at, member_of, contains_of}
+use Rattle.position_automata.proofs.Meaning.{follows_at, to_member, contains_of}
 use Rattle.position_automata.proofs.Rising.{rises_of, same_list}
 use Rattle.position_automata.proofs.States.{one_state_follows}
-use Rattle.position_automata.proofs.Words.{Member}
 
 -- the name at a position that follows
 pub name_of : (r : Re Chars) (i j : ℕ) (a : Chars) → Follows r i a j → name_at (letters r) j ≡ a
@@ -24,10 +23,8 @@ name_of r i j a f =
     let e : j - 1 ≡ s.0 = omega (arith, s.1) in
     ap (λ m. get_or (letters r) m []) e ∙ get_or_default (letters r) s.0 [] a s.2 ∙ s.3
 
-to_member : {A : Type 0} (xs : List A) (x : A) → Contains xs x → Member x xs
-to_member xs x c = member_of xs x c.0 c.1 c.2
-
-steps_one : (content : Content) (i : ℕ) (s t : List (Chars × ℕ)) → IsSteps content i s → IsSteps content i t → s ≡ t
+-- a state has one list of steps
+pub steps_one : (content : Content) (i : ℕ) (s t : List (Chars × ℕ)) → IsSteps content i s → IsSteps content i t → s ≡ t
 steps_one Empty i s t a b = a ∙ sym b
 steps_one Any i s t a b = a ∙ sym b
 steps_one (Mixed listed) i s t a b = a ∙ sym b

@@ -1,5 +1,5 @@
 -- Letters of a model, and what may begin, end and stand side by side in the lists of a language.
-use Rattle.std.proofs.Common.{◌≡◌, List, [], ◌∷◌, ◌++◌, ◌⊎◌}
+use Rattle.std.proofs.Common.{◌≡◌, List, [], ◌∷◌, ◌++◌, ◌⊎◌, map, inl, inr, refl, ap}
 use Rattle.content_models.specs.Re.{Re, Eps, Sym, Cat, Alt, Plus}
 
 abbrev pub First : {A : Type 0} → (List A → Type 0) → A → Type 0
@@ -33,3 +33,14 @@ Linear (Plus r) = Linear r
 abbrev pub Member : {A : Type 0} → A → List A → Type 0
 Member x [] = ⊥
 Member x (y ∷ ys) = (x ≡ y) ⊎ Member x ys
+
+-- members of an image
+pub mapped : {A B : Type 0} (f : A → B) (xs : List A) (x : A) → Member x xs → Member (f x) (map f xs)
+mapped f [] x m = elim m [ ]
+mapped f (y ∷ xs) x (inl e) = inl (ap f e)
+mapped f (y ∷ xs) x (inr m) = inr (mapped f xs x m)
+
+pub unmapped : {A B : Type 0} (f : A → B) (xs : List A) (y : B) → Member y (map f xs) → (x : A) × Member x xs × (y ≡ f x)
+unmapped f [] y m = elim m [ ]
+unmapped f (x ∷ xs) y (inl e) = (x, inl refl, e)
+unmapped f (x ∷ xs) y (inr m) = let t = unmapped f xs y m in (t.0, inr t.1, t.2)

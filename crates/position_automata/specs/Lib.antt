@@ -7,4 +7,6 @@ pub mod Outcomes
 pub mod Owed
 pub mod Places
 pub mod Rows
+pub mod Runs
+pub mod Stepping
 pub mod Tables

@@ -9,6 +9,7 @@ ghost use Rattle.content_models.specs.Proper.{IsProper};
 ghost use Rattle.position_automata.specs.Automata as spec;
 ghost use Rattle.position_automata.specs.Marked.{count};
 ghost use Rattle.position_automata.specs.Rows.{at_position};
+ghost use Rattle.position_automata.specs.Stepping.{does_accept, steps_of, step_on};
 ghost use Rattle.position_automata.specs.Tables.{step_names, IsSimple, Builds};
 
 use crate::BuildFault;
@@ -35,6 +36,7 @@ impl Model for Automaton {
     ghost use Rattle.content_models.specs.declared.content.Content.{Content};
     ghost use Rattle.content_models.specs.contracts.content.Particle as parts;
     ghost use Rattle.std.specs.Coded.{codes};
+    ghost use Rattle.position_automata.specs.Stepping.{does_accept, steps_of, step_on};
     ghost use Rattle.position_automata.specs.Tables.{IsTable};
 
     ghost Value = { Content };
@@ -215,7 +217,8 @@ impl Automaton {
     /// Whether a list of names may end in this state.
     pub fn accepts_at(&self, state: u32) -> bool
         requires { state < spec.states self.now }
-        ensures { Decides result (spec.Accepts self.now state) }
+        ensures accepts { Decides result (spec.Accepts self.now state) }
+        ensures value { result ≡ does_accept self.now state }
     {
         flag_at(self.accepting.as_slice(), state as usize)
     }
@@ -223,7 +226,8 @@ impl Automaton {
     /// The state that follows on this name, or None exactly where none does.
     pub fn step(&self, state: u32, name: &Name) -> Option<u32>
         requires { state < spec.states self.now }
-        ensures { spec.IsStep self.now state name.now result }
+        ensures follows { spec.IsStep self.now state name.now result }
+        ensures value { result ≡ step_on self.now state name.now }
     {
         match &self.content {
             Content::Any => Some(0),
@@ -241,7 +245,8 @@ impl Automaton {
     /// are listed, each to state 0; at ANY none is told.
     pub fn step_of(&self, state: u32, k: usize) -> Option<(&Name, u32)>
         requires { state < spec.states self.now }
-        ensures { spec.TellsStep self.now state k (option_map {U = Chars × ℕ} (λ s. (s.0.now, s.1)) result) }
+        ensures tells { spec.TellsStep self.now state k (option_map {U = Chars × ℕ} (λ s. (s.0.now, s.1)) result) }
+        ensures value { option_map {U = Chars × ℕ} (λ s. (s.0.now, s.1)) result ≡ slice_get (steps_of self.now state) k }
     {
         match &self.content {
             Content::Children(_) => position_step(

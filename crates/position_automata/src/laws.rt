@@ -5,6 +5,8 @@ ghost use Rattle.content_models.specs.declared.content.Content.{Content};
 ghost use Rattle.position_automata.specs.Automata.{IsFollows};
 ghost use Rattle.position_automata.specs.Judged.{Judges, judged};
 ghost use Rattle.position_automata.specs.Laws.{DerivesByStates, LeadsByWays, OneStateFollows};
+ghost use Rattle.position_automata.specs.Runs.{DerivesByRuns};
+ghost use Rattle.position_automata.specs.Stepping.{AcceptsByTest, StepsAreTold, StepsFollow, OneStepOn, AreWithin, FewSteps};
 ghost use Rattle.position_automata.specs.Tables.{Builds};
 ghost use Rattle.position_automata.specs.declared.fault.BuildFault.TheVariants.{Ambiguous};
 
@@ -15,6 +17,23 @@ pub fn states_law()
     ensures derives { DerivesByStates }
     ensures leads { LeadsByWays }
     ensures one { OneStateFollows }
+{}
+
+/// A content derives the lists of names that lead from its start to a state that accepts, step by step.
+pub fn runs_law()
+    ensures { DerivesByRuns }
+{}
+
+/// What the functions of `Stepping` say: the test of acceptance is exact; the steps of a state are those that follow, and
+/// no other list is its steps; where a content is deterministic the step on a name is the one that follows; what accepts
+/// and where a step begins and ends is a state; and a state of a proper content has at most 1,024 steps.
+pub fn steps_law()
+    ensures accepts { AcceptsByTest }
+    ensures told { StepsAreTold }
+    ensures follow { StepsFollow }
+    ensures one { OneStepOn }
+    ensures within { (content : Content) → AreWithin content }
+    ensures few { FewSteps }
 {}
 
 /// What `judged` says of a content (XML 1.0, Appendix E): the number of steps that its states have together where it is

@@ -26,6 +26,6 @@ mod walk;
 
 pub use automaton::{Automaton, build};
 pub use fault::BuildFault;
-pub use laws::{judging_law, states_law};
+pub use laws::{judging_law, runs_law, states_law, steps_law};
 pub use owed::Product;
 pub use walk::Ends;

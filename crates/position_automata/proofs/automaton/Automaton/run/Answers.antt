@@ -16,7 +16,7 @@ returns-in-None c =
       (λ t. absurd (stuck c.args.self.now c.args.names.now c.loop-name.name-index c.loop-name.state c.name-item.result d
           (subst (λ (x : List Chars). c.loop-name.name-index < length x) e c.loop-name-test.true)
           (subst (λ (x : List Chars). c.name-item.result ≡ get_or x c.loop-name.name-index c.name-item.result) e c.name-item.is)
-          c.loop-name.invariant.leads c.in-None.ensures t)),
+          c.loop-name.invariant.leads c.in-None.ensures.follows t)),
     )
 
 pub loop-name-preserved : goal.loop-name-preserved
@@ -26,12 +26,12 @@ loop-name-preserved c =
       leads = leads_more c.args.self.now c.args.names.now c.loop-name.name-index c.loop-name.state c.in-Some.next c.name-item.result
           (subst (λ (x : List Chars). c.loop-name.name-index < length x) e c.loop-name-test.true)
           (subst (λ (x : List Chars). c.name-item.result ≡ get_or x c.loop-name.name-index c.name-item.result) e c.name-item.is)
-          c.loop-name.invariant.leads c.in-Some.ensures;
-      within = follows_to c.args.self.now c.loop-name.state c.in-Some.next c.name-item.result c.in-Some.ensures;
+          c.loop-name.invariant.leads c.in-Some.ensures.follows;
+      within = follows_to c.args.self.now c.loop-name.state c.in-Some.next c.name-item.result c.in-Some.ensures.follows;
     }
 
 pub returns : goal.returns
 returns c =
     let d : IsDeterministic c.args.self.now = subst (λ (x : Content). IsDeterministic x) c.self.view_is c.self.invariant.deterministic in
     arrived c.args.self.now c.args.names.now c.loop-name.name-index c.loop-name.state c.accepts_at.result d
-    (subst (λ (x : List Chars). length x ≤ c.loop-name.name-index) c.as_slice-name-items.ensures c.loop-name-test.false) c.loop-name.invariant.leads c.accepts_at.ensures
+    (subst (λ (x : List Chars). length x ≤ c.loop-name.name-index) c.as_slice-name-items.ensures c.loop-name-test.false) c.loop-name.invariant.leads c.accepts_at.ensures.accepts
