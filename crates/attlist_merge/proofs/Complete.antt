@@ -1,44 +1,23 @@
 -- What is written is read.
-use Rattle.std.proofs.Common.{◌≡◌, List, [], ◌∷◌, ◌++◌, ℕ, suc, ◌+◌, ◌-◌, ◌<◌, ◌≤◌, length, length-append, drop, refl, sym, ap, ◌∙◌, subst, arith, true, false, true≢false, Some, None, inl, inr}
-use Rattle.std.specs.Prelude.{option_and_then, option_map, if◌then◌else◌, ◌==◌, ◌||◌, not, position, codes, nat_eq}
+use Rattle.std.proofs.Common.{◌≡◌, List, [], ◌∷◌, ◌++◌, ℕ, suc, ◌+◌, ◌-◌, ◌<◌, ◌≤◌, length, length-append, refl, sym, ap, ◌∙◌, subst, arith, true, false, Some, None}
+use Rattle.std.specs.Prelude.{option_and_then, option_map, if◌then◌else◌, ◌==◌, codes, nat_eq}
 use Rattle.std.specs.List.{list_all, starts_with}
 use Rattle.std.proofs.lemmas.List.{append_assoc, append-nil}
-use Rattle.std.proofs.lemmas.Bool.{eq-eqb}
-use Rattle.std.proofs.lemmas.Bool.Decides.{eqb_tells}
 use Rattle.jats_chars.specs.Classes.{is_space, is_name_char}
-use Rattle.jats_chars.specs.Names.{is_name, is_nmtoken}
+use Rattle.jats_chars.specs.Names.{is_nmtoken}
 use Rattle.attribute_types.specs.declared.types.AttType.{AttType}
 use Rattle.attribute_types.specs.declared.types.AttType.TheVariants as kind
 use Rattle.attlist_merge.specs.declared.raw.RawPreset.{RawPreset}
 use Rattle.attlist_merge.specs.declared.raw.RawPreset.TheVariants as preset
 use Rattle.attlist_merge.specs.declared.raw.RawAtt.{RawAtt}
 use Rattle.attlist_merge.specs.declared.raw.RawAttList.{RawAttList}
-use Rattle.attlist_merge.specs.Grammar.{IsBlank, IsSpace, AreTokens, IsGroup, IsNotation, IsType, is_value, IsQuoted, IsFixed, IsPreset, IsDefinition, AreDefinitions, IsAttlist}
-use Rattle.attlist_merge.specs.Reading.{skipped, word, after_word, read_space, read_name, group, read_group, keyword, as_notation, as_enumeration, read_notation, named_type, read_type, quoted, read_quoted, as_fixed, as_value, named_preset, read_preset, spaced_name, with_preset, with_type, read_definition, definitions, of_element, raw_list_of}
-use Rattle.attlist_merge.proofs.Fronts.{and-left, and-right, is-not, name_chars, nmtoken_chars, stops, word_plain, name_plain, blank_ends, space_ends, skipped_over, word_at, after_at, position_at, take_front, drop_behind, name_not_blank}
+use Rattle.text_fronts.specs.Fronts.{skipped, word, after_word}
+use Rattle.text_fronts.specs.Grammar.{IsBlank, IsSpace, IsLiteral}
+use Rattle.text_fronts.proofs.Fronts.{is-not, nmtoken_chars, stops, word_plain, blank_ends, skipped_over, word_at, after_at, name_not_blank}
+use Rattle.text_fronts.proofs.Complete.{space_back, space_stop, blank_stop, spaced_name_back, quote_cases, literal_form, literal_back, literal_plain}
+use Rattle.attlist_merge.specs.Grammar.{AreTokens, IsGroup, IsNotation, IsType, IsQuoted, IsFixed, IsPreset, IsDefinition, AreDefinitions, IsAttlist}
+use Rattle.attlist_merge.specs.Reading.{group, read_group, keyword, as_notation, as_enumeration, read_notation, named_type, read_type, with_references, read_quoted, as_fixed, as_value, named_preset, read_preset, with_preset, with_type, read_definition, definitions, of_element, raw_list_of}
 use Rattle.attlist_merge.proofs.Tokens.{group_closes, group_next, definitions_end, definitions-goes}
-
--- ---- white space and names
-
-space_back : (s r : List ℕ) → IsSpace s → stops is_space r ≡ true → read_space (s ++ r) ≡ Some r
-space_back [] r h p = absurd (true≢false (sym h))
-space_back (c ∷ s) r h p =
-    ap (λ b. if b then Some (skipped (s ++ r)) else None) (and-left (is_space c) (list_all is_space s) h)
-    ∙ ap Some (skipped_over s r (and-right (is_space c) (list_all is_space s) h) p)
-
--- no name goes on at white space
-space_stop : (s r : List ℕ) → IsSpace s → stops is_name_char (s ++ r) ≡ true
-space_stop [] r h = absurd (true≢false (sym h))
-space_stop (c ∷ s) r h = is-not (is_name_char c) (space_ends c (and-left (is_space c) (list_all is_space s) h))
-
-name_back : (w r : List ℕ) → is_name w ≡ true → stops is_name_char r ≡ true → read_name (w ++ r) ≡ Some (w, r)
-name_back w r h s =
-    ap (λ k. if is_name k then Some (k, after_word (w ++ r)) else None) (word_at w r (name_chars w h) s)
-    ∙ ap (λ b. if b then Some (w, after_word (w ++ r)) else None) h
-    ∙ ap (λ k. Some (w, k)) (after_at w r (name_chars w h) s)
-
-spaced_name_back : (a w r : List ℕ) → IsSpace a → is_name w ≡ true → stops is_name_char r ≡ true → spaced_name (a ++ (w ++ r)) ≡ Some (w, r)
-spaced_name_back a w r h n s = ap (option_and_then read_name) (space_back a (w ++ r) h (name_plain w r n)) ∙ name_back w r n s
 
 -- ---- tokens
 
@@ -186,40 +165,25 @@ type_plain (kind.Enumeration tokens) s r h = group_plain s r tokens h
 
 -- ---- presets
 
-quote-cases : (P : ℕ → Type 0) → P 0x22 → P 0x27 → (q : ℕ) → (q == 0x22 || q == 0x27) ≡ true → P q
-quote-cases P a b q h = elim (eqb_tells q 0x22) [
-  | inl x ↦ subst P (sym x.1) a
-  | inr x ↦ elim (eqb_tells q 0x27) [
-    | inl y ↦ subst P (sym y.1) b
-    | inr y ↦ absurd (true≢false (sym h ∙ ap (λ k. k || (q == 0x27)) x.0 ∙ y.0))
-  ]
-]
+abbrev literal_of : (s value : List ℕ) → IsQuoted s value → IsLiteral s value
+literal_of s value h = record { quote = h.quote; is_quote = h.is_quote; form = h.form; within = h.within }
 
 quoted_form : (s r value : List ℕ) → (h : IsQuoted s value) → s ++ r ≡ h.quote ∷ (value ++ (h.quote ∷ r))
-quoted_form s r value h = ap (λ k. k ++ r) h.form ∙ ap (λ k. h.quote ∷ k) (append_assoc value (h.quote ∷ []) r)
+quoted_form s r value h = literal_form s r value (literal_of s value h)
 
-quoted_back : (s r value : List ℕ) → IsQuoted s value → read_quoted (s ++ r) ≡ Some (value, r)
+pub quoted_back : (s r value : List ℕ) → IsQuoted s value → read_quoted (s ++ r) ≡ Some (value, r)
 unfolding read_quoted
 quoted_back s r value h =
-    let q = h.quote in
-    let cs = value ++ (q ∷ r) in
-    ap read_quoted (quoted_form s r value h)
-    ∙ ap (λ b. if b then option_and_then (quoted cs) (position (λ c. c == q) cs) else None) h.is_quote
-    ∙ ap (option_and_then (quoted cs)) (position_at (λ c. c == q) value q r h.within (eq-eqb q q refl))
-    ∙ ap (λ k. if is_value k then Some (k, drop (length value + 1) cs) else None) (take_front value (q ∷ r))
-    ∙ ap (λ b. if b then Some (value, drop (length value + 1) cs) else None) h.references
-    ∙ ap (λ k. Some (value, k)) (drop_behind value q r)
+    ap (option_and_then with_references) (literal_back s r value (literal_of s value h)) ∙ ap (λ b. if b then Some (value, r) else None) h.references
 
 quoted_plain : (s r value : List ℕ) → IsQuoted s value → stops is_space (s ++ r) ≡ true
-unfolding is_space
-quoted_plain s r value h =
-    ap (stops is_space) (quoted_form s r value h) ∙ quote-cases (λ q. not (is_space q) ≡ true) refl refl h.quote h.is_quote
+quoted_plain s r value h = literal_plain s r value (literal_of s value h)
 
 value_back : (s r value : List ℕ) → IsQuoted s value → read_preset (s ++ r) ≡ Some (preset.Value value, r)
 unfolding read_preset
 value_back s r value h =
     let cs = value ++ (h.quote ∷ r) in
-    let plain : (h.quote == 0x23) ≡ false = quote-cases (λ q. (q == 0x23) ≡ false) refl refl h.quote h.is_quote in
+    let plain : (h.quote == 0x23) ≡ false = quote_cases (λ q. (q == 0x23) ≡ false) refl refl h.quote h.is_quote in
     ap read_preset (quoted_form s r value h)
     ∙ ap (λ b. if b then named_preset (word cs) (after_word cs) else option_map as_value (read_quoted (h.quote ∷ cs))) plain
     ∙ ap (λ k. option_map as_value (read_quoted k)) (sym (quoted_form s r value h))
@@ -278,10 +242,6 @@ definition_back s r att h e =
     ∙ ap (λ o. option_map (λ y. (record { name = att.name; kind = att.kind; preset = y.0 }, y.1)) (option_and_then read_preset o)) (space_back h.after t3 h.is_after (preset_plain att.preset h.preset r h.is_preset))
     ∙ ap (option_map (λ y. (record { name = att.name; kind = att.kind; preset = y.0 }, y.1))) (preset_back att.preset h.preset r h.is_preset e)
 
-blank_stop : (t : List ℕ) → IsBlank t → stops is_name_char t ≡ true
-blank_stop [] h = refl
-blank_stop (c ∷ t) h = is-not (is_name_char c) (space_ends c (and-left (is_space c) (list_all is_space t) h))
-
 definitions_stop : (atts : List RawAtt) (t : List ℕ) → AreDefinitions t atts → stops is_name_char t ≡ true
 definitions_stop [] t h = blank_stop t h
 definitions_stop (att ∷ atts) t (front, rest, form, d, i) =
@@ -292,7 +252,7 @@ definition_shorter : (s r : List ℕ) (att : RawAtt) → IsDefinition s att → 
 definition_shorter s r att h = go h.before h.form h.is_before
   where
     go : (b : List ℕ) → s ≡ b ++ (att.name ++ (h.middle ++ (h.kind ++ (h.after ++ h.preset)))) → IsSpace b → length r < length (s ++ r)
-    go [] f i = absurd (true≢false (sym i))
+    go [] f i = absurd i
     go (c ∷ b) f i =
         let e : length s ≡ suc (length (b ++ (att.name ++ (h.middle ++ (h.kind ++ (h.after ++ h.preset)))))) = ap length f in
         let l : length (s ++ r) ≡ length s + length r = length-append s r in

@@ -4,7 +4,6 @@ pub mod Copies
 pub mod Covering
 pub mod Showing
 pub mod Tokens
-pub mod Fronts
 pub mod Sound
 pub mod Complete
 pub mod Taken

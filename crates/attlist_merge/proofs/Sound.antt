@@ -1,45 +1,22 @@
 -- What is read is written so.
-use Rattle.std.proofs.Common.{◌≡◌, List, [], ◌∷◌, ◌++◌, ℕ, zero, suc, ◌+◌, take, drop, refl, sym, ap, ◌∙◌, subst, true, true≢false, Option, Some, None, ◌⊎◌, inl, inr, length, bytes_eq}
-use Rattle.std.specs.Prelude.{option_and_then, option_map, if◌then◌else◌, ◌==◌, ◌&&◌, ◌||◌, position, codes, nat_eq}
+use Rattle.std.proofs.Common.{◌≡◌, List, [], ◌∷◌, ◌++◌, ℕ, zero, suc, refl, sym, ap, ◌∙◌, subst, true, Option, Some, None, ◌⊎◌, inl, inr, length, bytes_eq}
+use Rattle.std.specs.Prelude.{option_and_then, option_map, if◌then◌else◌, ◌==◌, codes, nat_eq}
 use Rattle.std.specs.List.{list_all, starts_with}
 use Rattle.std.proofs.lemmas.List.{append_assoc, append-nil}
-use Rattle.std.proofs.lemmas.Bool.Decides.{eqb_tells}
 use Rattle.jats_chars.specs.Classes.{is_space}
 use Rattle.jats_chars.specs.Names.{is_name, is_nmtoken}
 use Rattle.attribute_types.specs.declared.types.AttType.{AttType}
 use Rattle.attribute_types.specs.declared.types.AttType.TheVariants as kind
-use Rattle.attlist_merge.specs.Grammar.{IsSpace, IsToken, AreTokens, IsGroup, IsType, is_value, IsQuoted, IsPreset, IsDefinition, AreDefinitions, IsAttlist}
-use Rattle.attlist_merge.specs.Reading.{Read, skipped, word, after_word, read_space, read_name, closes, group, read_group, keyword, names_of, as_notation, as_enumeration, read_notation, named_type, read_type, quoted, read_quoted, as_fixed, as_value, read_fixed, named_preset, read_preset, spaced_name, spaced_type, spaced_preset, with_preset, with_type, read_definition, definitions, of_element, raw_list_of}
+use Rattle.text_fronts.specs.Fronts.{Read, skipped, word, after_word, read_space, read_name, spaced_name, read_literal}
+use Rattle.text_fronts.specs.Grammar.{IsSpace}
+use Rattle.text_fronts.proofs.Fronts.{and_then_some, map_some, if_some, choose, same-list, word_split, skipped_split}
+use Rattle.text_fronts.proofs.Sound.{same, Front, space_sound, name_sound, literal_sound}
+use Rattle.attlist_merge.specs.Grammar.{IsToken, AreTokens, IsGroup, IsType, is_value, IsQuoted, IsPreset, IsDefinition, AreDefinitions, IsAttlist}
+use Rattle.attlist_merge.specs.Reading.{closes, group, read_group, keyword, names_of, as_notation, as_enumeration, read_notation, named_type, read_type, with_references, read_quoted, as_fixed, as_value, read_fixed, named_preset, read_preset, spaced_type, spaced_preset, with_preset, with_type, read_definition, definitions, of_element, raw_list_of}
 use Rattle.attlist_merge.specs.declared.raw.RawPreset.{RawPreset}
 use Rattle.attlist_merge.specs.declared.raw.RawPreset.TheVariants as preset
 use Rattle.attlist_merge.specs.declared.raw.RawAtt.{RawAtt}
 use Rattle.attlist_merge.specs.declared.raw.RawAttList.{RawAttList}
-use Rattle.attlist_merge.proofs.Fronts.{and_then_some, map_some, if_some, choose, same-list, word_split, skipped_split, position_sound}
-
-same : (c d : ℕ) → (c == d) ≡ true → c ≡ d
-same c d q = elim (eqb_tells c d) [ inl r ↦ r.1 | inr r ↦ absurd (true≢false (sym q ∙ r.0)) ]
-
--- a form in front of what follows
-abbrev pub Front : {X : Type 0} → (List ℕ → X → Type 0) → List ℕ → X × List ℕ → Type 0
-Front Form t x = (s : List ℕ) × (t ≡ s ++ x.1) × Form s x.0
-
-pub space_sound : (t r : List ℕ) → read_space t ≡ Some r → (s : List ℕ) × (t ≡ s ++ r) × IsSpace s
-space_sound [] r e = cc
-space_sound (c ∷ cs) r e =
-    let h = if_some (is_space c) (Some (skipped cs)) r e in
-    let is : skipped cs ≡ r = (let f = h.1 in cc) in
-    let b = skipped_split cs in
-    (c ∷ b.0, ap (λ k. c ∷ k) (b.2 ∙ ap (λ k. b.0 ++ k) is), ap (λ k. k && list_all is_space b.0) h.0 ∙ b.1)
-
-abbrev pub IsName : List ℕ → List ℕ → Type 0
-IsName s name = (s ≡ name) × (is_name name ≡ true)
-
-pub name_sound : (t : List ℕ) (x : List ℕ × List ℕ) → read_name t ≡ Some x → Front IsName t x
-name_sound t x e =
-    let h = if_some (is_name (word t)) (Some (word t, after_word t)) x e in
-    let p : (word t, after_word t) ≡ x = (let f = h.1 in cc) in
-    let front : Front IsName t (word t, after_word t) = (word t, word_split t, (refl, h.0)) in
-    subst (Front IsName t) p front
 
 -- the tokens that were read after others
 abbrev pub Went : List (List ℕ) → List ℕ → List (List ℕ) × List ℕ → Type 0
@@ -158,18 +135,13 @@ type_sound t y e =
 
 pub quoted_sound : (t : List ℕ) (y : List ℕ × List ℕ) → read_quoted t ≡ Some y → Front IsQuoted t y
 unfolding read_quoted
-quoted_sound [] y e = (let f : None ≡ Some y = e in cc)
-quoted_sound (q ∷ cs) y e =
-    let h = if_some (q == 0x22 || q == 0x27) (option_and_then (quoted cs) (position (λ c. c == q) cs)) y e in
-    let g = and_then_some (quoted cs) (position (λ c. c == q) cs) y h.1 in
-    let k = g.0 in
-    let m = if_some (is_value (take k cs)) (Some (take k cs, drop (k + 1) cs)) y g.2 in
-    let p = position_sound (λ c. c == q) cs k g.1 in
-    let close : cs ≡ take k cs ++ (q ∷ drop (k + 1) cs) = p.0.2 ∙ ap (λ d. take k cs ++ (d ∷ drop (k + 1) cs)) (same p.0.0 q p.0.1) in
-    let form : IsQuoted (q ∷ (take k cs ++ (q ∷ []))) (take k cs) = record { quote = q; is_quote = h.0; form = refl; within = p.1; references = m.0 } in
-    let front : Front IsQuoted (q ∷ cs) (take k cs, drop (k + 1) cs) =
-    (q ∷ (take k cs ++ (q ∷ [])), ap (λ k. q ∷ k) (close ∙ sym (append_assoc (take k cs) (q ∷ []) (drop (k + 1) cs))), form) in
-    subst (Front IsQuoted (q ∷ cs)) (let f = m.1 in cc) front
+quoted_sound t y e =
+    let h = and_then_some with_references (read_literal t) y e in
+    let m = if_some (is_value h.0.0) (Some h.0) y h.2 in
+    let l = literal_sound t h.0 h.1 in
+    let form : IsQuoted l.0 h.0.0 = record { quote = l.2.quote; is_quote = l.2.is_quote; form = l.2.form; within = l.2.within; references = m.0 } in
+    let front : Front IsQuoted t h.0 = (l.0, l.1, form) in
+    subst (Front IsQuoted t) (let f = m.1 in cc) front
 
 fixed_sound : (t : List ℕ) (y : RawPreset × List ℕ) → read_fixed t ≡ Some y → (s : List ℕ) × (t ≡ s ++ y.1) × IsPreset (codes "#FIXED" ++ s) y.0
 fixed_sound t y e =

@@ -7,8 +7,9 @@ use Rattle.std.proofs.lemmas.Bool.{eq-eqb}
 use Rattle.std.proofs.lemmas.Bool.Decides.{eqb_tells}
 use Rattle.jats_chars.specs.Classes.{is_space}
 use Rattle.jats_chars.specs.Names.{is_nmtoken}
+use Rattle.text_fronts.specs.Fronts.{Read, skipped, word, after_word}
 use Rattle.attlist_merge.specs.declared.raw.RawAtt.{RawAtt}
-use Rattle.attlist_merge.specs.Reading.{Read, skipped, word, after_word, closes, group, read_definition, definitions}
+use Rattle.attlist_merge.specs.Reading.{closes, group, read_definition, definitions}
 
 pub filled : (w : List ℕ) → is_nmtoken w ≡ true → 0 < length w
 filled [] h = absurd (true≢false (sym h))

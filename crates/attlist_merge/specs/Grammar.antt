@@ -1,24 +1,15 @@
 -- How the body of an attribute-list declaration is written (XML 1.0, 3.3, productions 52 to 60), without references to parameter entities.
 use Rattle.std.specs.Prelude.{◌≡◌, ◌==◌, ℕ, Bool, true, not, ◌&&◌, ◌||◌, List, [], ◌∷◌, ◌++◌, codes, IsTrue, if◌then◌else◌}
 use Rattle.std.specs.List.{list_all}
-use Rattle.jats_chars.specs.Classes.{is_space}
 use Rattle.jats_chars.specs.Names.{is_name, is_nmtoken}
 use Rattle.dtd_scanner.specs.References.{begins_reference}
-use Rattle.attribute_types.specs.Spacing.{is_filled}
+use Rattle.text_fronts.specs.Grammar.{IsBlank, IsSpace}
 use Rattle.attribute_types.specs.declared.types.AttType.{AttType}
 use Rattle.attribute_types.specs.declared.types.AttType.TheVariants as kind
 use Rattle.attlist_merge.specs.declared.raw.RawPreset.{RawPreset}
 use Rattle.attlist_merge.specs.declared.raw.RawPreset.TheVariants as preset
 use Rattle.attlist_merge.specs.declared.raw.RawAtt.{RawAtt}
 use Rattle.attlist_merge.specs.declared.raw.RawAttList.{RawAttList}
-
--- S?: any white space
-abbrev pub IsBlank : List ℕ → Type 0
-IsBlank text = IsTrue (list_all is_space text)
-
--- S: some white space
-abbrev pub IsSpace : List ℕ → Type 0
-IsSpace text = IsTrue (is_filled text && list_all is_space text)
 
 -- ---- values
 

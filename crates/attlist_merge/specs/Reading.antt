@@ -1,8 +1,9 @@
--- What is read from the front of a text, with the rest of it; None where nothing of the form begins it.
-use Rattle.std.specs.Prelude.{◌≡◌, ℕ, zero, suc, ◌+◌, ◌||◌, ◌==◌, List, [], ◌∷◌, ◌++◌, length, take, drop, position, codes, bytes_eq, nat_eq, Option, Some, None, option_and_then, option_map, if◌then◌else◌, Result, Ok, Err}
-use Rattle.std.specs.List.{list_all, prefix_len, starts_with}
-use Rattle.jats_chars.specs.Classes.{is_space, is_name_char}
+-- The parts of an attribute-list declaration, read from the front of a text; None where nothing of the form begins it.
+use Rattle.std.specs.Prelude.{◌≡◌, ℕ, zero, suc, ◌==◌, List, [], ◌∷◌, ◌++◌, length, codes, bytes_eq, nat_eq, Option, Some, None, option_and_then, option_map, if◌then◌else◌, Result, Ok, Err}
+use Rattle.std.specs.List.{list_all, starts_with}
+use Rattle.jats_chars.specs.Classes.{is_space}
 use Rattle.jats_chars.specs.Names.{is_name, is_nmtoken}
+use Rattle.text_fronts.specs.Fronts.{Read, skipped, read_space, word, after_word, spaced_name, read_literal}
 use Rattle.attribute_types.specs.declared.types.AttType.{AttType}
 use Rattle.attribute_types.specs.declared.types.AttType.TheVariants as kind
 use Rattle.attlist_merge.specs.declared.raw.RawPreset.{RawPreset}
@@ -12,29 +13,6 @@ use Rattle.attlist_merge.specs.declared.raw.RawAttList.{RawAttList}
 use Rattle.attlist_merge.specs.declared.parse.ListFault.{ListFault}
 use Rattle.attlist_merge.specs.declared.parse.ListFault.TheVariants as fault
 use Rattle.attlist_merge.specs.Grammar.{is_value}
-
-abbrev pub Read : Type 0 → Type 0
-Read X = Option (X × List ℕ)
-
--- the text without the white space at its front
-unfoldable pub skipped : List ℕ → List ℕ
-skipped text = drop (prefix_len is_space text) text
-
--- S: the rest
-abbrev pub read_space : List ℕ → Option (List ℕ)
-read_space [] = None
-read_space (c ∷ cs) = if is_space c then Some (skipped cs) else None
-
--- the name characters at the front, and the rest
-unfoldable pub word : List ℕ → List ℕ
-word text = take (prefix_len is_name_char text) text
-
-unfoldable pub after_word : List ℕ → List ℕ
-after_word text = drop (prefix_len is_name_char text) text
-
--- a Name
-abbrev pub read_name : List ℕ → Read (List ℕ)
-read_name text = if is_name (word text) then Some (word text, after_word text) else None
 
 -- behind a token in parentheses: `)` ends them, and `|` goes on
 unfoldable pub closes : (List (List ℕ) → List ℕ → Read (List (List ℕ))) → List (List ℕ) → List ℕ → Read (List (List ℕ))
@@ -87,13 +65,12 @@ unfoldable pub read_type : List ℕ → Read AttType
 read_type text =
     if starts_with nat_eq text (codes "(") then option_map as_enumeration (read_group text) else named_type (keyword (word text)) (word text) (after_word text)
 
--- up to the first quote
-abbrev pub quoted : List ℕ → ℕ → Read (List ℕ)
-quoted text k = if is_value (take k text) then Some (take k text, drop (k + 1) text) else None
+abbrev pub with_references : List ℕ × List ℕ → Read (List ℕ)
+with_references x = if is_value x.0 then Some x else None
 
+-- a literal in which each `&` begins a reference
 unfoldable pub read_quoted : List ℕ → Read (List ℕ)
-read_quoted [] = None
-read_quoted (q ∷ cs) = if q == 0x22 || q == 0x27 then option_and_then (quoted cs) (position (λ c. c == q) cs) else None
+read_quoted text = option_and_then with_references (read_literal text)
 
 abbrev pub as_fixed : List ℕ × List ℕ → RawPreset × List ℕ
 as_fixed x = (preset.Fixed x.0, x.1)
@@ -115,10 +92,6 @@ named_preset name rest =
 unfoldable pub read_preset : List ℕ → Read RawPreset
 read_preset [] = None
 read_preset (c ∷ cs) = if c == 0x23 then named_preset (word cs) (after_word cs) else option_map as_value (read_quoted (c ∷ cs))
-
--- S Name
-abbrev pub spaced_name : List ℕ → Read (List ℕ)
-spaced_name text = option_and_then read_name (read_space text)
 
 -- S type
 abbrev pub spaced_type : List ℕ → Read AttType

@@ -27,5 +27,5 @@ mod value;
 pub use laws::attlist_law;
 pub use list::{Att, AttFault, AttList, Definition};
 pub use odd::{OddAtt, lists_cover, odd_att};
-pub use parse::{ListFault, parse_attlist, read_name, read_space, skipped, word};
+pub use parse::{ListFault, parse_attlist};
 pub use raw::{RawAtt, RawAttList, RawAtts, RawPreset};

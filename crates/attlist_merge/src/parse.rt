@@ -1,19 +1,15 @@
 //! The body of an attribute-list declaration.
 
-ghost use Rattle.std.specs.Prelude.{◌≡◌, [], ◌<◌, ◌≤◌, ◌+◌, length, map, option_map, IfOk, IfSome};
-ghost use Rattle.std.specs.List.{list_all, prefix_len};
-ghost use Rattle.std.specs.Option.{option_copied};
-ghost use Rattle.jats_chars.specs.Classes.{is_space as space, is_name_char as name_char};
-ghost use Rattle.jats_chars.specs.Names.{is_name as name};
+ghost use Rattle.std.specs.Prelude.{◌≡◌, [], ◌<◌, ◌≤◌, length, option_map, IfOk, IfSome};
+ghost use Rattle.text_fronts.specs.Fronts as front;
 ghost use Rattle.attlist_merge.specs.Reading as spec;
 
 use crate::raw::{RawAtt, RawAttList, RawAtts, RawPreset};
-use crate::value::{first_place, is_value};
+use crate::value::is_value;
 use attribute_types::AttType;
-use jats_chars::{
-    Name, NameList, NoMemory, Text, TextList, is_name_char, is_nmtoken_slice, is_space,
-};
+use jats_chars::{Name, NameList, NoMemory, Text, TextList, is_nmtoken_slice};
 use std::alloc::Global;
+use text_fronts::{is_blank, read_literal, read_space, skipped, spaced_name, word};
 use thiserror::Error;
 
 /// Why no declaration is given.
@@ -25,69 +21,6 @@ pub enum ListFault {
     /// Memory ran out.
     #[error("out of memory")]
     NoMemory,
-}
-
-/// The number of characters at the front that are white space.
-fn spaces(text: &[char]) -> usize
-    ensures value { result ≡ prefix_len space text.now }
-    ensures within { result ≤ length text.now }
-{
-    text.iter().take_while(|c| is_space(**c)).count()
-}
-
-fn name_chars(text: &[char]) -> usize
-    ensures value { result ≡ prefix_len name_char text.now }
-    ensures within { result ≤ length text.now }
-{
-    text.iter().take_while(|c| is_name_char(**c)).count()
-}
-
-/// The text without the white space at its front.
-#[tactic(auto, unfolding(crate::specs::Reading::skipped))]
-pub fn skipped(text: &[char]) -> &[char]
-    ensures value { result.now ≡ spec.skipped text.now }
-    ensures within { length result.now ≤ length text.now }
-{
-    text.split_at(spaces(text)).1
-}
-
-/// The name characters at the front, and the rest.
-#[tactic(auto, unfolding(crate::specs::Reading::word, crate::specs::Reading::after_word))]
-pub fn word(text: &[char]) -> (&[char], &[char])
-    ensures word { result.0.now ≡ spec.word text.now }
-    ensures rest { result.1.now ≡ spec.after_word text.now }
-    ensures within { length result.0.now + length result.1.now ≡ length text.now }
-{
-    text.split_at(name_chars(text))
-}
-
-/// The rest behind some white space.
-pub fn read_space(text: &[char]) -> Option<&[char]>
-    ensures value { option_copied result ≡ spec.read_space text.now }
-    ensures within { IfSome result (λ r. length r.now < length text.now) }
-{
-    match text.split_first() {
-        Some((c, rest)) => {
-            if is_space(*c) {
-                Some(skipped(rest))
-            } else {
-                None
-            }
-        }
-        None => None,
-    }
-}
-
-/// A Name, and the rest.
-pub fn read_name(alloc: Global, text: &[char]) -> Result<Option<(Name, &[char])>, NoMemory>
-    ensures value { IfOk result (λ o. option_map (λ x. (x.0, x.1.now)) o ≡ spec.read_name text.now) }
-    ensures within { IfOk result (λ o. IfSome o (λ x. length x.1.now ≤ length text.now)) }
-{
-    let (word, rest) = word(text);
-    match Name::from_slice(alloc, word)? {
-        None => Ok(None),
-        Some(name) => Ok(Some((name, rest))),
-    }
 }
 
 /// Nmtokens parted by `|` in parentheses, and the rest.
@@ -196,7 +129,7 @@ fn read_notation(alloc: Global, text: &[char]) -> Result<Option<(AttType, &[char
 }
 
 fn read_named_type(alloc: Global, text: &[char]) -> Result<Option<(AttType, &[char])>, NoMemory>
-    ensures value { IfOk result (λ o. option_map (λ x. (x.0, x.1.now)) o ≡ spec.named_type (spec.keyword (spec.word text.now)) (spec.word text.now) (spec.after_word text.now)) }
+    ensures value { IfOk result (λ o. option_map (λ x. (x.0, x.1.now)) o ≡ spec.named_type (spec.keyword (front.word text.now)) (front.word text.now) (front.after_word text.now)) }
     ensures within { IfOk result (λ o. IfSome o (λ x. length x.1.now ≤ length text.now)) }
 {
     let (name, rest) = word(text);
@@ -228,38 +161,21 @@ fn read_type(alloc: Global, text: &[char]) -> Result<Option<(AttType, &[char])>,
     }
 }
 
-/// What stands between quotes, and the rest behind them.
+/// What stands between quotes, where each `&` begins a reference, and the rest behind them.
 #[tactic(auto, unfolding(crate::specs::Reading::read_quoted))]
 fn read_quoted(text: &[char]) -> Option<(&[char], &[char])>
     ensures value { option_map (λ x. (x.0.now, x.1.now)) result ≡ spec.read_quoted text.now }
     ensures within { IfSome result (λ x. length x.1.now ≤ length text.now) }
 {
-    match text.split_first() {
+    match read_literal(text) {
         None => None,
-        Some((quote, rest)) => {
-            if *quote == '"' || *quote == '\'' {
-                match first_place(rest, *quote) {
-                    None => None,
-                    Some(k) => read_quoted_at(rest, k),
-                }
+        Some((value, rest)) => {
+            if is_value(value) {
+                Some((value, rest))
             } else {
                 None
             }
         }
-    }
-}
-
-/// What stands in front of the quote at a place, and the rest behind it.
-fn read_quoted_at(text: &[char], k: usize) -> Option<(&[char], &[char])>
-    requires { k < length text.now }
-    ensures value { option_map (λ x. (x.0.now, x.1.now)) result ≡ spec.quoted text.now k }
-    ensures within { IfSome result (λ x. length x.1.now ≤ length text.now) }
-{
-    let (value, _) = text.split_at(k);
-    if is_value(value) {
-        Some((value, text.split_at(k + 1).1))
-    } else {
-        None
     }
 }
 
@@ -282,7 +198,7 @@ fn read_fixed(alloc: Global, text: &[char]) -> Result<Option<(RawPreset, &[char]
 
 /// A preset behind its `#`, and the rest.
 fn read_named_preset(alloc: Global, text: &[char]) -> Result<Option<(RawPreset, &[char])>, NoMemory>
-    ensures value { IfOk result (λ o. option_map (λ x. (x.0, x.1.now)) o ≡ spec.named_preset (spec.word text.now) (spec.after_word text.now)) }
+    ensures value { IfOk result (λ o. option_map (λ x. (x.0, x.1.now)) o ≡ spec.named_preset (front.word text.now) (front.after_word text.now)) }
     ensures within { IfOk result (λ o. IfSome o (λ x. length x.1.now ≤ length text.now)) }
 {
     let (name, rest) = word(text);
@@ -345,24 +261,13 @@ fn read_spaced_preset(
     }
 }
 
-/// S and a Name, and the rest.
-fn read_spaced_name(alloc: Global, text: &[char]) -> Result<Option<(Name, &[char])>, NoMemory>
-    ensures value { IfOk result (λ o. option_map (λ x. (x.0, x.1.now)) o ≡ spec.spaced_name text.now) }
-    ensures within { IfOk result (λ o. IfSome o (λ x. length x.1.now < length text.now)) }
-{
-    match read_space(text) {
-        None => Ok(None),
-        Some(text) => read_name(alloc, text),
-    }
-}
-
 /// A definition, and the rest.
 #[tactic(auto, unfolding(crate::specs::Reading::read_definition))]
 fn read_definition(alloc: Global, text: &[char]) -> Result<Option<(RawAtt, &[char])>, NoMemory>
     ensures value { IfOk result (λ o. option_map (λ x. (x.0, x.1.now)) o ≡ spec.read_definition text.now) }
     ensures within { IfOk result (λ o. IfSome o (λ x. length x.1.now < length text.now)) }
 {
-    match read_spaced_name(alloc, text)? {
+    match spaced_name(alloc, text)? {
         None => Ok(None),
         Some((name, text)) => match read_spaced_type(alloc, text)? {
             None => Ok(None),
@@ -372,12 +277,6 @@ fn read_definition(alloc: Global, text: &[char]) -> Result<Option<(RawAtt, &[cha
             },
         },
     }
-}
-
-fn is_blank(text: &[char]) -> bool
-    ensures { result ≡ list_all space text.now }
-{
-    text.iter().all(|c| is_space(*c))
 }
 
 /// All definitions of a text.
@@ -403,7 +302,7 @@ fn read_definitions(alloc: Global, text: &[char]) -> Result<Option<RawAtts>, NoM
 fn read_body(alloc: Global, body: &[char]) -> Result<Option<RawAttList>, NoMemory>
     ensures { IfOk result (λ o. o ≡ spec.raw_list_of body.now) }
 {
-    match read_spaced_name(alloc, body)? {
+    match spaced_name(alloc, body)? {
         None => Ok(None),
         Some((element, rest)) => match read_definitions(alloc, rest)? {
             None => Ok(None),

@@ -30,8 +30,8 @@ module _ {S F : Type 0} (step : ℕ → S → List ℕ → Result (S × ℕ) F) 
   over_end at s [] none = refl
   over_end at s (c ∷ text) none = absurd (omega arith)
 
-  -- one step, and then the rest
-  over_next : (at n : ℕ) (s : S) (text : List ℕ) (x : Result S F) → 0 < length text → 0 < n → step at s text ≡ (x >>= λ v. Ok (v, n)) → over step at s text ≡ (x >>= λ v. over step (at + n) v (drop n text))
+  -- Where something is left, one step is taken, and the rest is gone over behind it.
+  pub over_next : (at n : ℕ) (s : S) (text : List ℕ) (x : Result S F) → 0 < length text → 0 < n → step at s text ≡ (x >>= λ v. Ok (v, n)) → over step at s text ≡ (x >>= λ v. over step (at + n) v (drop n text))
   unfolding over
   over_next at n s [] x some pos is = absurd (omega arith)
   over_next at zero s (c ∷ text) x some pos is = absurd (omega arith)

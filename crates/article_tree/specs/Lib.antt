@@ -1,0 +1,13 @@
+pub mod Content
+pub mod Tokens
+pub mod Words
+pub mod Grammar
+pub mod Taking
+pub mod Stops
+pub mod Reading
+pub mod InPlace
+pub mod Writing
+pub mod Runs
+pub mod Faults
+pub mod Plain
+pub mod Taken

@@ -1,0 +1,21 @@
+//! Articles read and written.
+//!
+//! An article is a text of XML 1.0: what stands before its one element, the element, and what stands behind it. `specs/`
+//! says what an article is and what it gives: `Tokens` has the tokens of a content, `Content` its pieces and the items
+//! that they give, `Grammar` what a text must be to be an article of a node, and `Writing` the text of a node and which
+//! nodes are writable.
+//!
+//! `Taking`, `Stops`, `Reading` and `InPlace` compute the same: the first token of a text, and the node of an article or
+//! the first fault of it, with its place. The laws at the end say that what is computed agrees with the grammar, that a
+//! text is an article of one node at most, and that what is written of a writable node is read back.
+#![tactic(auto)]
+
+mod fronts;
+mod laws;
+mod runs;
+mod taking;
+mod token;
+
+pub use laws::{
+    article_law, content_law, document_law, fault_law, one_law, placing_law, token_law, writing_law,
+};

@@ -1,0 +1,4 @@
+pub mod Elements
+pub mod Identifiers
+pub mod Entities
+pub mod Notations
