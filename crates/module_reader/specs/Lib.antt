@@ -1,7 +1,6 @@
 pub mod LoadedBy
 pub mod Stops
 pub mod Sources
-pub mod Bodies
 pub mod Reading
 pub mod Sets
 pub mod Outcomes
