@@ -12,3 +12,4 @@ pub mod Loading
 pub mod Asking
 pub mod Keywords
 pub mod Counting
+pub mod Laws

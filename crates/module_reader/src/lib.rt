@@ -17,6 +17,7 @@ mod entities;
 mod faults;
 mod frames;
 mod kinds;
+mod laws;
 mod loading;
 #[cfg(test)]
 mod loading_tests;
@@ -33,4 +34,5 @@ mod texts;
 
 pub use catalogs::load_catalog;
 pub use faults::ReadFault;
+pub use laws::kept_law;
 pub use reading::read_set;
