@@ -1,5 +1,5 @@
 -- External identifiers, read from the front (XML 1.0, 4.2.2).
-use Rattle.std.specs.Prelude.{ℕ, List, ◌==◌, bytes_eq, codes, Option, Some, None, option_map, option_and_then, map, if◌then◌else◌}
+use Rattle.std.specs.Prelude.{ℕ, List, ◌==◌, bytes_eq, codes, Some, None, option_map, option_and_then, map, if◌then◌else◌}
 use Rattle.std.specs.List.{list_all}
 use Rattle.jats_chars.specs.Classes.{is_pubid_char}
 use Rattle.text_fronts.specs.Fronts.{Read, word, after_word, spaced_literal}

@@ -21,7 +21,7 @@ use Rattle.attlist_merge.specs.declared.raw.RawPreset.{RawPreset}
 use Rattle.attlist_merge.specs.declared.raw.RawPreset.TheVariants as raw
 use Rattle.attlist_merge.specs.declared.raw.RawAtt.{RawAtt}
 use Rattle.attlist_merge.proofs.Complete.{attlist_complete}
-use Rattle.attlist_merge.proofs.Fronts.{nmtoken_chars}
+use Rattle.text_fronts.proofs.Fronts.{nmtoken_chars}
 use Rattle.decl_set.specs.Asked.{are_chars, is_definition}
 use Rattle.dtd_flattener.specs.Flat.{escaped, is_special_value, quoted, group_text, type_text, preset_text, attribute_body}
 use Rattle.dtd_flattener.proofs.Entities.{escaped_unquoted}

@@ -7,7 +7,7 @@ use Rattle.std.proofs.Math.Seq.{drop-append_seam, take-append_seam}
 use Rattle.std.proofs.lemmas.Bool.{eqb-false, eq-eqb, or_cases, eqb-true, true≢false}
 use Rattle.std.proofs.lemmas.List.{length-replicate}
 use Rattle.std.proofs.lemmas.List.Elements.{All-nil, All-cons}
-use Rattle.attlist_merge.proofs.Fronts.{position_at}
+use Rattle.text_fronts.proofs.Fronts.{position_at}
 use Rattle.jats_chars.specs.Classes.{is_name_start}
 use Rattle.dtd_scanner.specs.Items.{first_is, is_quote, IsPart, IsBody}
 use Rattle.dtd_scanner.specs.Walk.{over}

@@ -7,7 +7,7 @@ use Rattle.std.proofs.lemmas.List.Folds.{list_all_at}
 use Rattle.std.proofs.lemmas.List.Sums.{suffix_len-take_no, sum_by-append, sum_by-cons}
 use Rattle.jats_chars.specs.Classes.{is_space, is_name_char}
 use Rattle.jats_chars.specs.Names.{is_name}
-use Rattle.attlist_merge.proofs.Fronts.{stops, name_chars}
+use Rattle.text_fronts.proofs.Fronts.{stops, name_chars}
 use Rattle.content_models.specs.declared.content.Content.{Content}
 use Rattle.content_models.specs.declared.content.Content.TheVariants.{Empty, Any, Mixed, Children}
 use Rattle.content_models.specs.Parses.{most_open, occurrences, repeated_in}
@@ -30,7 +30,8 @@ use Rattle.decl_set.specs.Declaring.{element_judged, with_element}
 use Rattle.decl_set.specs.declared.faults.DeclFault.{DeclFault}
 use Rattle.decl_set.specs.declared.faults.DeclFault.TheVariants as fault
 use Rattle.decl_set.proofs.Kept.{follows_are}
-use Rattle.module_reader.specs.Bodies.{trimmed_end, with_content, element_of}
+use Rattle.text_fronts.specs.Fronts.{trimmed_end}
+use Rattle.declaration_bodies.specs.Elements.{with_content, element_of}
 use Rattle.module_reader.specs.Reading.{declares, element_named, element_spelled, element_read, element_declared}
 use Rattle.module_reader.specs.Sources.{Source}
 use Rattle.module_reader.specs.Stops.{refused}

@@ -10,8 +10,8 @@ use Rattle.dtd_scanner.specs.Items.{first_is, is_quote}
 use Rattle.dtd_scanner.specs.References.{is_digit}
 use Rattle.dtd_scanner.specs.Walk.{◌>>=◌}
 use Rattle.dtd_scanner.specs.declared.item.ItemKind.TheVariants.{EntityDecl}
-use Rattle.attlist_merge.specs.Reading.{read_name, word, after_word, spaced_name}
-use Rattle.attlist_merge.proofs.Fronts.{stops, name_plain, word_at, after_at}
+use Rattle.text_fronts.specs.Fronts.{read_name, word, after_word, spaced_name, read_literal}
+use Rattle.text_fronts.proofs.Fronts.{stops, name_plain, word_at, after_at}
 use Rattle.entity_catalog.specs.declared.ids.Ids.{Ids}
 use Rattle.entity_catalog.specs.declared.ids.Ids.TheVariants.{System, Public, PublicOnly}
 use Rattle.pe_expansion.specs.Expansion.{literal_of}
@@ -20,9 +20,10 @@ use Rattle.decl_set.specs.Declarations.{Declarations, Entity}
 use Rattle.decl_set.specs.Declaring.{with_entity}
 use Rattle.decl_set.specs.declared.entity.EntityDef.{EntityDef}
 use Rattle.decl_set.specs.declared.entity.EntityDef.TheVariants.{Internal, External, Unparsed}
-use Rattle.module_reader.specs.Bodies.{is_entity_value, read_literal, read_ids, as_value, notation_named, read_ndata, as_external, read_def, with_def, entity_behind, entity_of}
-use Rattle.module_reader.specs.declared.bodies.RawDef.{RawDef}
-use Rattle.module_reader.specs.declared.bodies.RawDef.TheVariants as raw
+use Rattle.declaration_bodies.specs.Entities.{is_entity_value, as_value, notation_named, read_ndata, as_external, read_def, with_def, entity_behind, entity_of}
+use Rattle.declaration_bodies.specs.Identifiers.{read_ids}
+use Rattle.declaration_bodies.specs.declared.entities.RawDef.{RawDef}
+use Rattle.declaration_bodies.specs.declared.entities.RawDef.TheVariants as raw
 use Rattle.module_reader.specs.declared.standing.Standing.{Standing}
 use Rattle.module_reader.specs.declared.state.State.{State}
 use Rattle.module_reader.specs.Reading.{entity_declared, entity_read, declared_by, declared_as}

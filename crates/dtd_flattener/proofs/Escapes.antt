@@ -22,7 +22,7 @@ use Rattle.decl_set.specs.declared.faults.ValueFault.{ValueFault}
 use Rattle.decl_set.specs.declared.faults.ValueFault.TheVariants.{Malformed}
 use Rattle.decl_set.proofs.ValueDecimals.{decimal_written}
 use Rattle.decl_set.proofs.ValueEscapes.{decimal_writes}
-use Rattle.module_reader.specs.Bodies.{is_right, is_entity_value}
+use Rattle.declaration_bodies.specs.Entities.{is_right, is_entity_value}
 use Rattle.dtd_flattener.specs.Flat.{reference_to, escaped}
 use Rattle.dtd_flattener.proofs.Bodies.{over_front}
 use Rattle.dtd_flattener.proofs.Fronts.{all_by}

@@ -6,9 +6,8 @@ use Rattle.std.proofs.lemmas.Bool.{eqb-true, eq-eqb, and_parts, and_from, false_
 use Rattle.jats_chars.specs.Classes.{is_space, is_name_char}
 use Rattle.jats_chars.specs.Names.{is_name}
 use Rattle.dtd_scanner.specs.Items.{is_quote}
-use Rattle.attlist_merge.specs.Reading.{read_space, read_name, spaced_name, after_word}
-use Rattle.attlist_merge.proofs.Fronts.{stops, name_chars, name_plain, skipped_over, word_at, after_at, position_at, take_front, drop_behind}
-use Rattle.module_reader.specs.Bodies.{read_literal, literal_end}
+use Rattle.text_fronts.specs.Fronts.{read_space, read_name, spaced_name, after_word, read_literal, literal_end}
+use Rattle.text_fronts.proofs.Fronts.{stops, name_chars, name_plain, skipped_over, word_at, after_at, position_at, take_front, drop_behind}
 use Rattle.dtd_flattener.specs.Flat.{quoted}
 use Rattle.dtd_flattener.proofs.Flatness.{is_plain, IsFlat, flat_plain, flat_quoted}
 

@@ -4,13 +4,14 @@ use Rattle.std.specs.Prelude.{codes, option_and_then, option_map}
 use Rattle.std.specs.List.{list_all, list_any}
 use Rattle.std.proofs.lemmas.Bool.{or_cases, eqb-true, and_parts, and_from, not-true, not_from_false}
 use Rattle.jats_chars.specs.Classes.{is_space, is_name_char, is_pubid_char}
-use Rattle.attlist_merge.specs.Reading.{Read, word, after_word}
-use Rattle.attlist_merge.proofs.Fronts.{stops, same-list, word_at, after_at}
+use Rattle.text_fronts.specs.Fronts.{Read, word, after_word, read_literal, spaced_literal}
+use Rattle.text_fronts.proofs.Fronts.{stops, same-list, word_at, after_at}
 use Rattle.entity_catalog.specs.Collapse.{collapse_public}
 use Rattle.entity_catalog.specs.declared.ids.Ids.{Ids}
 use Rattle.entity_catalog.specs.declared.ids.Ids.TheVariants.{System, Public, PublicOnly}
 use Rattle.decl_set.specs.Asked.{are_chars, is_system, is_public, are_ids, are_entity_ids}
-use Rattle.module_reader.specs.Bodies.{read_literal, spaced_literal, as_system, as_public, spaced_public, with_system, read_system, read_ids, if_blank, public_ids, notation_ids}
+use Rattle.declaration_bodies.specs.Identifiers.{as_system, as_public, spaced_public, with_system, read_system, read_ids}
+use Rattle.declaration_bodies.specs.Notations.{if_blank, public_ids, notation_ids}
 use Rattle.dtd_flattener.specs.Flat.{quoted, system_literal, ids_text}
 use Rattle.dtd_flattener.proofs.Flatness.{IsFlat, flat_plain, flat_quoted, flat_joined}
 use Rattle.dtd_flattener.proofs.Fronts.{other_than, all_by, space_read, literal_read, quoted_read, quoted_flat}

@@ -6,7 +6,7 @@ use Rattle.std.specs.Map.{lookup}
 use Rattle.std.proofs.lemmas.Bool.{and_parts}
 use Rattle.jats_chars.specs.Classes.{is_space}
 use Rattle.jats_chars.specs.Names.{is_name}
-use Rattle.attlist_merge.proofs.Fronts.{stops}
+use Rattle.text_fronts.proofs.Fronts.{stops}
 use Rattle.entity_catalog.specs.declared.ids.Ids.{Ids}
 use Rattle.entity_catalog.specs.declared.ids.Ids.TheVariants.{System, Public, PublicOnly}
 use Rattle.dtd_scanner.specs.declared.item.ItemKind.TheVariants.{NotationDecl}
@@ -15,7 +15,7 @@ use Rattle.decl_set.specs.Declarations.{Declarations, Notation}
 use Rattle.decl_set.specs.Declaring.{with_notation}
 use Rattle.decl_set.specs.declared.faults.DeclFault.{DeclFault}
 use Rattle.decl_set.specs.declared.faults.DeclFault.TheVariants as fault
-use Rattle.module_reader.specs.Bodies.{with_ids, notation_ids, notation_of}
+use Rattle.declaration_bodies.specs.Notations.{with_ids, notation_ids, notation_of}
 use Rattle.module_reader.specs.Reading.{declares, notation_read, notation_declared}
 use Rattle.module_reader.specs.Sources.{Source}
 use Rattle.module_reader.specs.declared.standing.Standing.{Standing}

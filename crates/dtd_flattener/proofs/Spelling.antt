@@ -6,7 +6,7 @@ use Rattle.std.proofs.lemmas.Bool.{and_parts, and_from, not_from_false}
 use Rattle.std.proofs.lemmas.List.Folds.{list_all-append}
 use Rattle.jats_chars.specs.Classes.{is_space, is_char, is_name_char}
 use Rattle.jats_chars.specs.Names.{is_name}
-use Rattle.attlist_merge.proofs.Fronts.{name_chars, space_ends}
+use Rattle.text_fronts.proofs.Fronts.{name_chars, space_ends}
 use Rattle.content_models.specs.declared.content.Occurs.{Occurs}
 use Rattle.content_models.specs.declared.content.Occurs.TheVariants.{Once, Opt, Star}
 use Rattle.content_models.specs.declared.content.Occurs.TheVariants as sign

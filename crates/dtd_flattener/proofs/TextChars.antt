@@ -6,7 +6,7 @@ use Rattle.std.proofs.lemmas.Bool.{and_parts, and_from, or_cases, or_left, or_ri
 use Rattle.std.proofs.lemmas.List.Folds.{list_all-append}
 use Rattle.jats_chars.specs.Classes.{Rows, in_row, in_rows, is_char, is_name_char, is_pubid_char, char_rows, name_start_rows, name_more_rows, pubid_rows}
 use Rattle.jats_chars.specs.Names.{is_name}
-use Rattle.attlist_merge.proofs.Fronts.{name_chars}
+use Rattle.text_fronts.proofs.Fronts.{name_chars}
 use Rattle.dtd_flattener.proofs.Fronts.{other_than, all_by}
 
 -- a Char other than CR

@@ -67,7 +67,7 @@ undeclared_chars : (r : Result (List ℕ) DecodeFault) → IfOk r IsChars → If
 undeclared_chars (Ok text) all = without_chars text all (without_declaration text) refl
 undeclared_chars (Err f) all = tt
 
-text_chars : (file : List ℕ) → IfOk (text_of file) IsChars
+pub text_chars : (file : List ℕ) → IfOk (text_of file) IsChars
 text_chars file = undeclared_chars _ (lined_chars _ (pieces_chars (mark_len file) (pieces (drop (mark_len file) file))))
 
 -- a text that is decoded

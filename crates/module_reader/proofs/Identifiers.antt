@@ -8,7 +8,7 @@ use Rattle.std.proofs.lemmas.List.Folds.{list_all-append}
 use Rattle.jats_chars.specs.Classes.{is_char, is_pubid_char, is_space, is_name_char}
 use Rattle.jats_chars.specs.Names.{is_name}
 use Rattle.dtd_scanner.specs.Items.{first_is, is_quote}
-use Rattle.attlist_merge.specs.Reading.{read_space, read_name, skipped, word, after_word, spaced_name}
+use Rattle.text_fronts.specs.Fronts.{read_space, read_name, skipped, word, after_word, spaced_name, read_literal, literal_end, spaced_literal, is_blank}
 use Rattle.entity_catalog.specs.Collapse.{collapse_public, public_words, is_public_space}
 use Rattle.entity_catalog.proofs.Collapsed.{collapse_public-twice}
 use Rattle.entity_catalog.proofs.Separated.{list_all-filter}
@@ -17,11 +17,13 @@ use Rattle.entity_catalog.specs.declared.ids.Ids.TheVariants.{System, Public, Pu
 use Rattle.decl_set.specs.Asked.{are_chars, are_ids, are_entity_ids, is_system, is_public}
 use Rattle.decl_set.proofs.ValueChars.{drop_all}
 use Rattle.decl_set.proofs.ValueKeeping.{cond_some, map_some}
-use Rattle.module_reader.specs.declared.bodies.RawDef.{RawDef}
-use Rattle.module_reader.specs.declared.bodies.RawDef.TheVariants.{Value, External, Unparsed}
-use Rattle.module_reader.specs.declared.bodies.RawEntity.{RawEntity}
+use Rattle.declaration_bodies.specs.declared.entities.RawDef.{RawDef}
+use Rattle.declaration_bodies.specs.declared.entities.RawDef.TheVariants.{Value, External, Unparsed}
+use Rattle.declaration_bodies.specs.declared.entities.RawEntity.{RawEntity}
 use Rattle.module_reader.specs.OfChars.{IsOfChars}
-use Rattle.module_reader.specs.Bodies.{is_entity_value, as_value, notation_named, read_ndata, as_external, read_def, with_def, entity_behind, entity_of, read_literal, literal_end, spaced_literal, as_system, as_public, spaced_public, with_system, read_system, read_ids, public_ids, notation_ids, with_ids, notation_of, if_blank, is_blank, line_end}
+use Rattle.declaration_bodies.specs.Entities.{is_entity_value, as_value, notation_named, read_ndata, as_external, read_def, with_def, entity_behind, entity_of}
+use Rattle.declaration_bodies.specs.Identifiers.{as_system, as_public, spaced_public, with_system, read_system, read_ids, line_end}
+use Rattle.declaration_bodies.specs.Notations.{public_ids, notation_ids, with_ids, notation_of, if_blank}
 use Rattle.module_reader.proofs.ExpansionChars.{take_all}
 
 abbrev pub IsChars : List ℕ → Type 0

@@ -16,7 +16,7 @@ use Rattle.pe_expansion.specs.Bound.{text_bound}
 use Rattle.pe_expansion.specs.Expansion.{Written}
 use Rattle.pe_expansion.specs.Ignored.{closes, depth_after, end_from, ignored_end}
 use Rattle.pe_expansion.specs.Opening.{opening}
-use Rattle.module_reader.specs.Bodies.{trimmed}
+use Rattle.text_fronts.specs.Fronts.{trimmed}
 use Rattle.module_reader.specs.Frames.{Passage, Stands, is_passed, is_declaration, with_start, end_of, moved, local_of, rest_of, step, from, resumed, left}
 use Rattle.module_reader.specs.Moves.{counted}
 use Rattle.module_reader.specs.Reading.{Names, Local, Deeper, after, reading, ended, ends_section, item_by, referred, declaration, expanded, section, section_by, scan_stop, standing_of, section_closed}

@@ -19,6 +19,7 @@ pub mod ExpansionChars
 pub mod Going
 pub mod Growing
 pub mod Identifiers
+pub mod Keeping
 pub mod Lists
 pub mod Modules
 pub mod Outer

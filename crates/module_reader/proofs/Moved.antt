@@ -13,7 +13,7 @@ use Rattle.pe_expansion.specs.Bound.{text_bound}
 use Rattle.pe_expansion.specs.Opening.{opening}
 use Rattle.pe_expansion.specs.declared.openings.Opened.{Opened}
 use Rattle.module_reader.specs.Asking.{HasText, OpensIn}
-use Rattle.module_reader.specs.Bodies.{trimmed}
+use Rattle.text_fronts.specs.Fronts.{trimmed}
 use Rattle.module_reader.specs.Counting.{Counts}
 use Rattle.module_reader.specs.Frames.{Advances, Begins, Begun, Enters, Passage, Stands, Stepped, IsSound, IsThere, current, found, is_declaration, left, left_of, moved, passage_of, passages_of, rest_of, size_of, text_found, unread, all_unread, waiting}
 use Rattle.module_reader.specs.Moves.{AreChars, GoesOn, Moves, Gives, counted, loaded_at}

@@ -6,8 +6,8 @@ use Rattle.std.proofs.lemmas.Option.{none-some}
 use Rattle.jats_chars.specs.Classes.{is_space, is_name_char}
 use Rattle.jats_chars.specs.Names.{is_name}
 use Rattle.content_models.specs.Parses.{most_open, open_after}
-use Rattle.attlist_merge.specs.Reading.{read_space, read_name, skipped, word, after_word, spaced_name}
-use Rattle.module_reader.specs.Bodies.{element_of, with_content, trimmed_end}
+use Rattle.text_fronts.specs.Fronts.{read_space, read_name, skipped, word, after_word, spaced_name, trimmed_end}
+use Rattle.declaration_bodies.specs.Elements.{element_of, with_content}
 
 some_is : {X : Type 0} (x y : X) → Some x ≡ Some y → x ≡ y
 some_is x y e = cc

@@ -1,7 +1,6 @@
 pub mod LoadedBy
 pub mod Stops
 pub mod Sources
-pub mod Bodies
 pub mod Reading
 pub mod Sets
 pub mod Outcomes
@@ -13,3 +12,4 @@ pub mod Loading
 pub mod Asking
 pub mod Keywords
 pub mod Counting
+pub mod Laws

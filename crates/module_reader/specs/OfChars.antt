@@ -1,8 +1,8 @@
 -- What is read from bodies of Chars.
 use Rattle.std.specs.Prelude.{IsTrue}
 use Rattle.decl_set.specs.Asked.{are_chars, are_entity_ids}
-use Rattle.module_reader.specs.declared.bodies.RawDef.{RawDef}
-use Rattle.module_reader.specs.declared.bodies.RawDef.TheVariants.{Value, External, Unparsed}
+use Rattle.declaration_bodies.specs.declared.entities.RawDef.{RawDef}
+use Rattle.declaration_bodies.specs.declared.entities.RawDef.TheVariants.{Value, External, Unparsed}
 
 -- a value is of Chars, and identifiers are as they are asked for
 abbrev pub IsOfChars : RawDef → Type 0

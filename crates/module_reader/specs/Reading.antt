@@ -29,12 +29,15 @@ use Rattle.decl_set.specs.Declaring.{with_element, with_attributes, with_entity,
 use Rattle.decl_set.specs.declared.entity.EntityDef.{EntityDef}
 use Rattle.decl_set.specs.declared.entity.EntityDef.TheVariants as entity
 use Rattle.decl_set.specs.declared.faults.DeclFault.{DeclFault}
-use Rattle.module_reader.specs.declared.bodies.RawDef.{RawDef}
-use Rattle.module_reader.specs.declared.bodies.RawDef.TheVariants.{Value, External, Unparsed}
-use Rattle.module_reader.specs.declared.bodies.RawEntity.{RawEntity}
+use Rattle.declaration_bodies.specs.declared.entities.RawDef.{RawDef}
+use Rattle.declaration_bodies.specs.declared.entities.RawDef.TheVariants.{Value, External, Unparsed}
+use Rattle.declaration_bodies.specs.declared.entities.RawEntity.{RawEntity}
 use Rattle.module_reader.specs.declared.standing.Standing.{Standing}
 use Rattle.module_reader.specs.declared.state.State.{State}
-use Rattle.module_reader.specs.Bodies.{trimmed, element_of, entity_of, notation_of}
+use Rattle.text_fronts.specs.Fronts.{trimmed}
+use Rattle.declaration_bodies.specs.Elements.{element_of}
+use Rattle.declaration_bodies.specs.Entities.{entity_of}
+use Rattle.declaration_bodies.specs.Notations.{notation_of}
 use Rattle.module_reader.specs.Sources.{Source, asking}
 use Rattle.module_reader.specs.Stops.{module_text, place_in, refused, not_ended, decl_stop}
 

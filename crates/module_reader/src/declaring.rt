@@ -13,13 +13,13 @@ ghost use Rattle.module_reader.specs.Reading as spec;
 ghost use Rattle.module_reader.specs.Stops as stops;
 
 use crate::ReadFault;
-use crate::bodies::{read_element, read_notation};
 use crate::standing::Standing;
 use crate::state::State;
 use crate::stops::{decl_stop, refused};
 use attlist_merge::{ListFault, RawAttList, parse_attlist};
 use content_models::{Content, ContentFault, is_too_deep, parse_content};
 use decl_set::DeclFault;
+use declaration_bodies::{read_element, read_notation};
 use entity_catalog::Ids;
 use jats_chars::{Name, Text};
 use jats_fault::Details;

@@ -12,11 +12,11 @@ ghost use Rattle.module_reader.specs.Reading as spec;
 
 use crate::ReadFault;
 use crate::asking::expand_literal;
-use crate::bodies::{RawDef, RawEntity, read_entity};
 use crate::standing::Standing;
 use crate::state::State;
 use crate::stops::refused;
 use decl_set::EntityDef;
+use declaration_bodies::{RawDef, RawEntity, read_entity};
 use entity_catalog::{Catalog, Ids};
 use jats_chars::{Name, NameList, Text};
 use jats_fault::Details;

@@ -5,18 +5,19 @@
 //! the declarations say once their references are expanded.
 //!
 //! `specs/Reading.antt` says what a text does to a reading, by cases on its first item; `specs/Sources.antt` when a module is
-//! loaded, `specs/Bodies.antt` how the bodies of declarations are written, `specs/Stops.antt` where a reading stops and why.
-//! `specs/Sets.antt` puts these together: the set that an entry and a catalog stand for, or the first refusal.
+//! loaded, and `specs/Stops.antt` where a reading stops and why. How the bodies of declarations are written stands in
+//! `declaration_bodies` and `attlist_merge`. `specs/Sets.antt` puts these together: the set that an entry and a catalog stand
+//! for, or the first refusal.
 #![tactic(auto)]
 
 mod asking;
-mod bodies;
 mod catalogs;
 mod declaring;
 mod entities;
 mod faults;
 mod frames;
 mod kinds;
+mod laws;
 mod loading;
 #[cfg(test)]
 mod loading_tests;
@@ -33,4 +34,5 @@ mod texts;
 
 pub use catalogs::load_catalog;
 pub use faults::ReadFault;
+pub use laws::kept_law;
 pub use reading::read_set;

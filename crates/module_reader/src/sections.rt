@@ -2,13 +2,12 @@
 
 ghost use Rattle.std.specs.Prelude.{◌≡◌, ◌<◌, ◌≤◌, IfOk, OnOk, bytes_eq, codes, length, true};
 ghost use Rattle.jats_io.specs.Causes.{HasCause};
-ghost use Rattle.module_reader.specs.Bodies.{trimmed};
+ghost use Rattle.text_fronts.specs.Fronts.{trimmed};
 ghost use Rattle.module_reader.specs.Frames.{Begins, IsMoved, IsSound, Starts, current, end_of, with_start};
 ghost use Rattle.module_reader.specs.Keywords.{keyword_of};
 ghost use Rattle.module_reader.specs.Outcomes.{LoadFailed, IsAbsence};
 
 use crate::ReadFault;
-use crate::bodies::trimmed;
 use crate::frames::{Start, Work};
 use crate::standing::Standing;
 use crate::stops::{not_ended, refused};
@@ -17,6 +16,7 @@ use jats_chars::{NoMemory, Text};
 use jats_fault::Details;
 use pe_expansion::ignored_end;
 use std::alloc::Global;
+use text_fronts::trimmed;
 
 /// What the keyword of a section says.
 #[derive(Clone, Copy, Debug, Drop, PartialEq, Eq)]

@@ -8,8 +8,9 @@ use Rattle.std.proofs.lemmas.Bool.Decides.{eqb_tells}
 use Rattle.jats_chars.specs.Classes.{is_space, is_name_char}
 use Rattle.jats_chars.specs.Names.{is_name}
 use Rattle.dtd_scanner.specs.Items.{is_quote}
-use Rattle.text_fronts.specs.Fronts.{skipped, word, after_word, read_space, read_name, spaced_name, literal_end, read_literal, spaced_literal}
+use Rattle.text_fronts.specs.Fronts.{skipped, after_word, read_space, read_name, spaced_name, literal_end, read_literal, spaced_literal}
 use Rattle.text_fronts.specs.Grammar.{IsBlank, IsSpace, IsLiteral}
+use Rattle.text_fronts.proofs.Ends.{skipped_more}
 use Rattle.text_fronts.proofs.Fronts.{and-left, and-right, is-not, name_chars, stops, name_plain, space_ends, skipped_over, word_at, after_at, position_at, take_front, drop_behind}
 
 -- ---- white space and names
@@ -19,6 +20,13 @@ space_back [] r h p = absurd h
 space_back (c ∷ s) r h p =
     ap (λ b. if b then Some (skipped (s ++ r)) else None) (and-left (is_space c) (list_all is_space s) h)
     ∙ ap Some (skipped_over s r (and-right (is_space c) (list_all is_space s) h) p)
+
+-- where white space may go on behind it, it is all passed over
+pub space_more : (s r : List ℕ) → IsSpace s → read_space (s ++ r) ≡ Some (skipped r)
+space_more [] r h = absurd h
+space_more (c ∷ s) r h =
+    ap (λ b. if b then Some (skipped (s ++ r)) else None) (and-left (is_space c) (list_all is_space s) h)
+    ∙ ap Some (skipped_more s r (and-right (is_space c) (list_all is_space s) h))
 
 -- no name goes on at white space
 pub space_stop : (s r : List ℕ) → IsSpace s → stops is_name_char (s ++ r) ≡ true

@@ -8,7 +8,7 @@ use Rattle.std.proofs.lemmas.Bool.{leb-true, ltb-true, lt-ltb}
 use Rattle.std.proofs.lemmas.Bool.Decides.{eqb_tells}
 use Rattle.jats_chars.specs.Classes.{is_space, is_name_start, is_name_char, in_rows, name_more_rows}
 use Rattle.jats_chars.specs.Names.{is_name, is_nmtoken}
-use Rattle.text_fronts.specs.Fronts.{skipped, word, after_word, trimmed_end}
+use Rattle.text_fronts.specs.Fronts.{skipped, word, after_word}
 
 pub and-left : (a b : Bool) → (a && b) ≡ true → a ≡ true
 and-left true b h = refl

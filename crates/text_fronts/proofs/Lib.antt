@@ -1,3 +1,4 @@
 pub mod Fronts
+pub mod Ends
 pub mod Sound
 pub mod Complete

@@ -2,7 +2,7 @@ use Rattle.std.proofs.Common.{◌≡◌, ◌-◌, ◌≤◌, ◌∙◌, List, �
 use Rattle.dtd_scanner.specs.Parts.{contents_of}
 use Rattle.dtd_scanner.specs.declared.item.ItemKind.TheVariants.{SectionStart}
 use Rattle.module_reader.specs.Frames.{IsSound, Stepped, current, rest_of, size_of}
-use Rattle.module_reader.specs.Bodies.{trimmed}
+use Rattle.text_fronts.specs.Fronts.{trimmed}
 use Rattle.module_reader.specs.Moves.{Gives, counted}
 use Rattle.module_reader.specs.Reading.{expanded}
 use Rattle.module_reader.specs.Sources.{Files}

@@ -1,5 +1,5 @@
 use Rattle.std.proofs.Common.{List, ℕ, Err, subst}
-use Rattle.module_reader.specs.Bodies.{trimmed}
+use Rattle.text_fronts.specs.Fronts.{trimmed}
 use Rattle.module_reader.specs.Frames.{Starts}
 use Rattle.module_reader.proofs.Shifting.{starts_begun, starts_fault}
 use Rattle.module_reader.proofs.sections.begin_section.Goals as goal

@@ -1,5 +1,5 @@
 use Rattle.std.proofs.Common.{arith, ap, ◌∙◌}
-use Rattle.module_reader.specs.Bodies.{trimmed}
+use Rattle.text_fronts.specs.Fronts.{trimmed}
 use Rattle.module_reader.specs.Keywords.{keyword_of}
 use Rattle.module_reader.proofs.Shifting.{starts_ignored, starts_unended}
 use Rattle.module_reader.proofs.sections.start_of.Goals as goal
