@@ -11,3 +11,5 @@ pub mod Runs
 pub mod Faults
 pub mod Plain
 pub mod Taken
+pub mod Frames
+pub mod Held

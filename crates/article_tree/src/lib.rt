@@ -11,6 +11,7 @@
 #![tactic(auto)]
 
 mod fronts;
+mod held;
 mod laws;
 mod runs;
 mod taking;
