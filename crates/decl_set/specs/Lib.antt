@@ -9,6 +9,7 @@ pub mod Asked
 pub mod Outcomes
 pub mod Steps
 pub mod Validity
+pub mod Oddness
 pub mod Breaks
 pub mod AttributeSteps
 pub mod Judgements

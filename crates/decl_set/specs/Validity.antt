@@ -1,5 +1,5 @@
 -- When a document meets a set of declarations (XML 1.0, 3, Element Valid; structure alone).
-use Rattle.std.specs.Prelude.{◌≡◌, ℕ, List, Option, Some, None, IsTrue}
+use Rattle.std.specs.Prelude.{◌≡◌, ℕ, List, Bool, true, Option, Some, None, IsTrue}
 use Rattle.content_models.specs.declared.content.Content.{Content}
 use Rattle.content_models.specs.declared.content.TextKind.{TextKind}
 use Rattle.content_models.specs.declared.content.TextKind.TheVariants.{NoItems, White, All}
@@ -10,17 +10,37 @@ use Rattle.attlist_merge.specs.Lists.{Definitions}
 use Rattle.attlist_merge.specs.Values.{is_right}
 use Rattle.decl_set.specs.Declarations.{Declarations, content_in, attributes_in}
 
--- the items other than elements are allowed: none, plain runs with comments and processing instructions, or all
-abbrev pub TextAllowed : TextKind → Items → Type 0
-TextAllowed NoItems items = IsTrue (elements_alone items)
-TextAllowed White items = IsTrue (runs_plain items)
-TextAllowed All items = Unit {0}
+-- whether the items other than elements are allowed: none, plain runs with comments and processing instructions, or all
+abbrev pub is_text_allowed : TextKind → Items → Bool
+is_text_allowed NoItems items = elements_alone items
+is_text_allowed White items = runs_plain items
+is_text_allowed All items = true
 
--- These items and attributes meet the content and the list, where the element is declared: the child names are derived, the
--- other items are allowed, each attribute is declared and in its class, and each required one is there.
+abbrev pub TextAllowed : TextKind → Items → Type 0
+TextAllowed kind items = IsTrue (is_text_allowed kind items)
+
+-- These items and attributes suit the content and the list, whatever the names of the child elements are: the other items
+-- are allowed, each attribute is declared and in its class, and each required one is there.
+pub record SuitsBy (declared : Content) (list : Definitions) (atts : List Attribute) (items : Items) : Type 0 where
+  pub text : TextAllowed (text_kind declared) items
+  pub attributes : IsTrue (is_right list atts)
+
+-- They meet them: the child names are derived, and the rest suits.
+pub record MeetsBy (declared : Content) (list : Definitions) (atts : List Attribute) (items : Items) : Type 0 where
+  pub content : Derives declared (child_names items)
+  pub suits : SuitsBy declared list atts items
+
+abbrev pub SuitsContent : Option Content → Definitions → List Attribute → Items → Type 0
+SuitsContent None list atts items = ⊥
+SuitsContent (Some declared) list atts items = SuitsBy declared list atts items
+
+-- the items and attributes suit the declaration of an element
+abbrev pub Suits : Declarations → List ℕ → List Attribute → Items → Type 0
+Suits set name atts items = SuitsContent (content_in set name) (attributes_in set name) atts items
+
 abbrev pub MeetsContent : Option Content → Definitions → List Attribute → Items → Type 0
 MeetsContent None list atts items = ⊥
-MeetsContent (Some content) list atts items = Derives content (child_names items) × TextAllowed (text_kind content) items × IsTrue (is_right list atts)
+MeetsContent (Some declared) list atts items = MeetsBy declared list atts items
 
 -- the node meets its declaration
 abbrev pub Meets : Declarations → List ℕ → List Attribute → Items → Type 0

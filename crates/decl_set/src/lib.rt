@@ -12,6 +12,7 @@
 #[cfg(test)]
 mod attribute_tests;
 mod attributes;
+mod breaks;
 mod declaring;
 mod ending;
 mod entity;
@@ -26,6 +27,7 @@ mod value_stack;
 mod value_tests;
 mod values;
 
+pub use breaks::{BrokenDecl, Cause, Odd};
 pub use entity::EntityDef;
 pub use faults::{DeclFault, ValueFault};
 pub use set::DeclSet;

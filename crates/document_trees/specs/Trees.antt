@@ -1,5 +1,5 @@
 -- Documents as trees (XML 1.0, 2.1 and 3), apart from any set of declarations.
-use Rattle.std.specs.Prelude.{ℕ, ◌+◌, Bool, true, false, ◌||◌, ◌&&◌, not, List, [], ◌∷◌, IsTrue, bytes_eq}
+use Rattle.std.specs.Prelude.{ℕ, ◌+◌, max, Bool, true, false, ◌||◌, ◌&&◌, not, List, [], ◌∷◌, ◌++◌, IsTrue, bytes_eq}
 use Rattle.std.specs.List.{list_all, list_any}
 use Rattle.jats_chars.specs.Classes.{is_char, is_space}
 use Rattle.jats_chars.specs.Names.{is_name}
@@ -9,7 +9,8 @@ abbrev pub Attribute : Type 0
 Attribute = List ℕ × List ℕ
 
 -- What stands in an element, in order. Each item is followed by the later ones; an element also has those inside it.
--- A run is plain where no CDATA section and no reference is in it.
+-- A run is plain where no CDATA section, character reference or predefined entity is in it and all its characters are white; a
+-- reference to an entity whose replacement text has the white space itself is plain (2.10, 3).
 pub data Items : Type 0 where
   nothing : Items
   element : (name : List ℕ) (atts : List Attribute) (inside later : Items) → Items
@@ -22,6 +23,46 @@ pub record Node : Type 0 where
   pub name : List ℕ
   pub atts : List Attribute
   pub items : Items
+
+-- items with others after them
+abbrev pub joined : Items → Items → Items
+joined nothing others = others
+joined (element name atts inside later) others = element name atts inside (joined later others)
+joined (chars text plain later) others = chars text plain (joined later others)
+joined (comment text later) others = comment text (joined later others)
+joined (pi target body later) others = pi target body (joined later others)
+
+-- the nodes below, in document order: each before those in it, and these before the later ones
+abbrev pub nodes_below : Items → List Node
+nodes_below nothing = []
+nodes_below (element name atts inside later) = record { name = name; atts = atts; items = inside } ∷ nodes_below inside ++ nodes_below later
+nodes_below (chars text plain later) = nodes_below later
+nodes_below (comment text later) = nodes_below later
+nodes_below (pi target body later) = nodes_below later
+
+-- the nodes of a document, in document order
+abbrev pub nodes_in : Node → List Node
+nodes_in node = node ∷ nodes_below node.items
+
+-- the most elements below that are open at once
+abbrev pub depth_below : Items → ℕ
+depth_below nothing = 0
+depth_below (element name atts inside later) = max (1 + depth_below inside) (depth_below later)
+depth_below (chars text plain later) = depth_below later
+depth_below (comment text later) = depth_below later
+depth_below (pi target body later) = depth_below later
+
+-- the most elements of a document that are open at once
+abbrev pub depth : Node → ℕ
+depth node = 1 + depth_below node.items
+
+-- the elements alone
+abbrev pub bare : Items → Items
+bare nothing = nothing
+bare (element name atts inside later) = element name atts inside (bare later)
+bare (chars text plain later) = bare later
+bare (comment text later) = bare later
+bare (pi target body later) = bare later
 
 -- the names of the children, in order
 abbrev pub child_names : Items → List (List ℕ)

@@ -1,0 +1,4 @@
+pub mod Listed
+pub mod Alone
+mod Walking
+pub mod Seen
