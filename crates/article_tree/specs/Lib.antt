@@ -13,3 +13,4 @@ pub mod Plain
 pub mod Taken
 pub mod Frames
 pub mod Held
+pub mod Outcomes

@@ -14,6 +14,7 @@ mod fronts;
 mod held;
 mod laws;
 mod runs;
+mod stops;
 mod taking;
 mod token;
 
