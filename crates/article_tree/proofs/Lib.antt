@@ -19,3 +19,5 @@ pub mod Placing
 pub mod Letters
 pub mod Places
 pub mod Taken
+pub mod Waiting
+pub mod Holding

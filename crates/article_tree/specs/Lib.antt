@@ -11,3 +11,6 @@ pub mod Runs
 pub mod Faults
 pub mod Plain
 pub mod Taken
+pub mod Frames
+pub mod Held
+pub mod Outcomes

@@ -63,11 +63,15 @@ abbrev pub started : List Entity → Names → ℕ → Standing → ℕ → Stat
 started entities names depth c at s tag =
     values entities names c at s.spent tag.atts >>= λ r. unrepeated depth c at s tag r.0 r.1 (repeated [] r.0)
 
+-- the state behind the end of this element, with these around it
+abbrev pub popped : State → Open → List Open → State
+popped s o opens = record { opens = opens; items = joined o.before (tree.element o.name o.atts s.items tree.nothing); spent = s.spent }
+
 -- an end tag ends the innermost element of this text
 abbrev pub ended : Standing → ℕ → State → List ℕ → List Open → Result State Fault
 ended c at s name [] = Err (malformed c at)
 ended c at s name (o ∷ opens) =
-    if bytes_eq o.name name then Ok (record { opens = opens; items = joined o.before (tree.element o.name o.atts s.items tree.nothing); spent = s.spent })
+    if bytes_eq o.name name then Ok (popped s o opens)
     else Err (refused c at 61 (o.name ∷ name ∷ []))
 
 -- ---- references to general entities

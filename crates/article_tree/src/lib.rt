@@ -11,8 +11,10 @@
 #![tactic(auto)]
 
 mod fronts;
+mod held;
 mod laws;
 mod runs;
+mod stops;
 mod taking;
 mod token;
 

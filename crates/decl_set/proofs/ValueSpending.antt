@@ -72,7 +72,7 @@ module _ (entities : List Entity) (least : ℕ) where
       (λ at s t hs ts. by_piece_rises (valued levels entities) (valued_rises levels) names s t (value_piece t) hs) 0 w text h tt
 
 -- a value counts no less than before
-value_rises : (entities : List Entity) (names : List (List ℕ)) (spent : ℕ) (raw : List ℕ) → IfOk (value_of entities names spent raw) (λ w. spent ≤ w.spent)
+pub value_rises : (entities : List Entity) (names : List (List ℕ)) (spent : ℕ) (raw : List ℕ) → IfOk (value_of entities names spent raw) (λ w. spent ≤ w.spent)
 unfolding value_of
 value_rises entities names spent text =
     valued_rises entities spent (suc (32 - length names)) names (record { text = []; spent = spent }) text (omega arith)

@@ -1,0 +1,32 @@
+-- What the calls that read answer, unless memory runs out.
+use Rattle.std.specs.Prelude.{◌≡◌, ℕ, List, Option, option_map, Result, Ok, Err}
+use Rattle.jats_fault.specs.declared.fault.Fault.{Fault}
+use Rattle.decl_set.specs.declared.faults.ValueFault.{ValueFault}
+use Rattle.decl_set.specs.declared.faults.ValueFault.TheVariants as value
+use Rattle.article_tree.specs.Stops.{Inner, Standing, value_stop}
+use Rattle.article_tree.specs.declared.stops.EntityText.{EntityText}
+use Rattle.article_tree.specs.declared.stops.Stand.{Stand}
+use Rattle.article_tree.specs.declared.stops.ArticleFault.{ArticleFault}
+use Rattle.article_tree.specs.declared.stops.ArticleFault.TheVariants.{Refused, NoMemory}
+
+abbrev pub inner_of : EntityText → Inner
+inner_of e = record { place = e.place; name = e.name }
+
+abbrev pub standing_of : Stand → Standing
+standing_of s = record { article = s.article.now; inner = option_map inner_of s.inner }
+
+-- this refusal, or want of memory
+abbrev pub Refuses : Fault → ArticleFault → Type 0
+Refuses said (Refused refusal) = refusal ≡ said
+Refuses said NoMemory = Unit {0}
+
+-- the refusal for what stops a value
+abbrev pub StopsBy : Standing → ℕ → List ℕ → ValueFault → ArticleFault → Type 0
+StopsBy c at name value.NoMemory answer = answer ≡ NoMemory
+StopsBy c at name fault answer = Refuses (value_stop c at name fault) answer
+
+-- the answer is what a definition says, unless memory ran out
+abbrev pub Answers : {X Y : Type 0} → (X → Y) → Result Y Fault → Result X ArticleFault → Type 0
+Answers view said (Ok x) = said ≡ Ok (view x)
+Answers view said (Err (Refused refusal)) = said ≡ Err refusal
+Answers view said (Err NoMemory) = Unit {0}
