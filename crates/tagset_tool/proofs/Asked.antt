@@ -1,5 +1,5 @@
 -- What words ask for.
-use Rattle.std.proofs.Common.{◌≡◌, ◌∙◌, ◌==◌, ◌&&◌, ℕ, ◌<◌, true, List, [], get_or, Some, None, Ok, IfSome, sym, subst, length, bytes_eq, codes}
+use Rattle.std.proofs.Common.{◌≡◌, ◌∙◌, ◌==◌, ◌&&◌, ℕ, ◌<◌, true, List, [], get_or, Some, None, Ok, Err, IfOk, IfSome, sym, subst, length, bytes_eq, codes}
 use Rattle.std.specs.Prelude.{Option, Result}
 use Rattle.std.proofs.lemmas.List.{get_or_default}
 use Rattle.std.proofs.lemmas.Bool.{and_parts, eqb-true}
@@ -7,7 +7,13 @@ use Rattle.jats_fault.specs.declared.fault.Fault.{Fault}
 use Rattle.decl_set.specs.Declarations.{Declarations}
 use Rattle.module_reader.specs.Outcomes.{Reads}
 use Rattle.module_reader.specs.Sources.{Files}
-use Rattle.tagset_tool.specs.Outcomes.{after}
+use Rattle.module_reader.specs.declared.faults.ReadFault.{ReadFault}
+use Rattle.module_reader.specs.declared.faults.ReadFault.TheVariants as reading
+use Rattle.tagset_tool.specs.declared.answer.Answer.{Answer}
+use Rattle.tagset_tool.specs.declared.answer.Stop.{Stop}
+use Rattle.tagset_tool.specs.declared.answer.Stop.TheVariants as stop
+use Rattle.tagset_tool.specs.Outcomes.{Outcome, after}
+use Rattle.tagset_tool.specs.Runs.{StopsAs}
 use Rattle.tagset_tool.specs.Words.{SetWords, word, set_by, is_compare}
 use Rattle.tagset_tool.specs.commands.Compare.{compares, over_sets}
 
@@ -28,3 +34,25 @@ told_compared (Some files) one other root a p q status bytes same first_read sec
     let Q : Result Declarations Fault → Type 0 = λ r. after r (λ second. over_sets p second root) status bytes in
     let R : List ℕ → Type 0 = λ name. over_sets p q name status bytes in
     subst P (sym first_read) (subst Q (sym second_read) (subst R same over))
+
+-- what is answered where a set is not read
+stopped_by : {X : Type 0} → (outcome : Result X Fault) (next : X → Outcome) (fault : ReadFault) (result : Result Answer Stop) → Reads outcome (Err fault) → StopsAs fault result → IfOk result (λ a. after outcome next a.status a.bytes.items)
+stopped_by outcome next (reading.Refused refusal) (Ok answer) reads stops =
+    subst (λ r. after r next answer.status answer.bytes.items) (sym reads) stops
+stopped_by outcome next (reading.Refused refusal) (Err stop.LoadFailed) reads stops = absurd stops
+stopped_by outcome next (reading.Refused refusal) (Err stop.NoMemory) reads stops = tt
+stopped_by outcome next reading.LoadFailed result reads stops = subst (λ r. IfOk r (λ a. after outcome next a.status a.bytes.items)) (sym stops) tt
+stopped_by outcome next reading.NoMemory result reads stops = subst (λ r. IfOk r (λ a. after outcome next a.status a.bytes.items)) (sym stops) tt
+
+pub told_stopped : {X : Type 0} → (holds : Option Files) (read : Files → Result X Fault) (next : Files → X → Outcome) (fault : ReadFault) (result : Result Answer Stop) → IfSome holds (λ files. Reads (read files) (Err fault)) → StopsAs fault result
+    → IfSome holds (λ files. IfOk result (λ a. after (read files) (next files) a.status a.bytes.items))
+told_stopped None read next fault result reads stops = tt
+told_stopped (Some files) read next fault result reads stops = stopped_by (read files) (next files) fault result reads stops
+
+-- and where the second of two sets is not
+pub told_stopped_second : {X Y : Type 0} → (holds : Option Files) (read : Files → Result X Fault) (other : Files → Result Y Fault) (next : Files → X → Y → Outcome) (first : X) (fault : ReadFault) (result : Result Answer Stop)
+    → IfSome holds (λ files. Reads (read files) (Ok first)) → IfSome holds (λ files. Reads (other files) (Err fault)) → StopsAs fault result
+    → IfSome holds (λ files. IfOk result (λ a. after (read files) (λ x. after (other files) (next files x)) a.status a.bytes.items))
+told_stopped_second None read other next first fault result read_first reads stops = tt
+told_stopped_second (Some files) read other next first fault result read_first reads stops =
+    subst (λ r. IfOk result (λ a. after r (λ x. after (other files) (next files x)) a.status a.bytes.items)) (sym read_first) (stopped_by (other files) (next files first) fault result reads stops)

@@ -1,6 +1,6 @@
 -- Declarations that break, and the documents that show it.
 use Rattle.std.proofs.Common.{◌≡◌, ℕ, Bool, true, false, cond, ◌||◌, ◌&&◌, not, List, [], ◌∷◌, Some, None, refl, sym, ap, subst, IsTrue, IsSome, is_some, bytes_eq, MatchOption}
-use Rattle.std.specs.Prelude.{Option, unwrap_or}
+use Rattle.std.specs.Prelude.{Option, option_map, unwrap_or}
 use Rattle.std.specs.List.{AllByRecursion, list_all}
 use Rattle.std.specs.Map.{lookup}
 use Rattle.jats_chars.specs.Names.{is_name}
@@ -9,19 +9,21 @@ use Rattle.content_models.specs.declared.content.Content.TheVariants.{Empty, Any
 use Rattle.content_models.specs.Model.{Derives, among}
 use Rattle.attlist_merge.specs.Lists.{Definitions}
 use Rattle.attlist_merge.specs.Oddness.{odd_of}
-use Rattle.attlist_merge.specs.declared.odd.OddAtt.{OddAtt}
 use Rattle.decl_set.specs.Declarations.{Declarations, Element, content_in, attributes_in}
 use Rattle.document_trees.specs.Trees.{Items, nothing, element, chars, comment, pi, Node, IsWellMade, EachBelow, EachNode, child_names, elements_alone, are_items}
 use Rattle.decl_set.specs.Validity.{IsValid, IsSeparating, IsSubset, Meets, MeetsContent, TextAllowed}
 use Rattle.content_models.specs.Kinds.{text_kind}
 use Rattle.document_trees.specs.Trees.{stands_below}
 use Rattle.decl_set.specs.Validity.{HasDocument, IsUseful}
-use Rattle.decl_set.specs.Breaks.{Cause, ContentBreaks, BreaksBy, Breaks, IsKept, IsFirstBroken, IsOdd}
+use Rattle.decl_set.specs.declared.breaks.Cause.{Cause}
+use Rattle.decl_set.specs.Breaks.{ContentBreaks, BreaksBy, Breaks, IsKept, IsFirstBroken, cause_of}
+use Rattle.decl_set.specs.Oddness.{more_text, odd_by}
+use Rattle.decl_set.specs.declared.breaks.Odd.{Odd}
+use Rattle.decl_set.specs.declared.breaks.Odd.TheVariants as odd
 use Rattle.tagset_tool.specs.Plain.{is_plain, IsPlain, IsPlainIfAny, IsPlainAt}
 use Rattle.tagset_tool.specs.Reached.{IsReached}
-use Rattle.tagset_tool.specs.Verdicts.{meant}
 use Rattle.tagset_tool.specs.Checks.{text_cause, declared, holds_name, fits_name, Listed, IsFine, IsFineNamed, FirstBreak}
-use Rattle.decl_set.specs.Breaks as cause
+use Rattle.decl_set.specs.declared.breaks.Cause.TheVariants as cause
 use Rattle.tagset_tool.proofs.Documents.{meets_bare, bare_meets, breaks_bare, empty_meets, leaf, leaf_valid, leaf_document, IsClosed, IsNamedIn, below_named, below_fine, children_listed, children_lead, children_documented, fine_meets, meets_some, reached_useful, reached_separates}
 use Rattle.tagset_tool.proofs.Names.{bytes_same, or_other, and_left, and_right, all_among, led_leads, reached_of, declared_in}
 
@@ -71,18 +73,25 @@ listed_breaks first listed b n plain leaf_plain at misfit =
     by (Children part) plain misfit d = cc
     by (Mixed ms) plain misfit d = let h : IsTrue (among ms n) = and_left (among ms n) true d in cc
 
--- no attribute is odd where none is declared
-none_odd : (name : List ℕ) → IsOdd [] [] name → ⊥
-none_odd name odd = by odd.0 odd.1
+-- where no attributes are declared, text alone is odd
+odd_text : (a b : Content) (k : Cause) → option_map cause_of (odd_by (Some a) (Some b) [] []) ≡ Some k → IsTrue (more_text (text_kind a) (text_kind b)) × (cause.Text ≡ k)
+odd_text a b k is = by (more_text (text_kind a) (text_kind b)) is
   where
-    by : (o : OddAtt) → odd_of [] [] ≡ Some o → ⊥
-    by o e = cc
+    by : (t : Bool) → option_map cause_of (cond t (Some odd.Text) (option_map odd.Attribute (odd_of [] []))) ≡ Some k → IsTrue t × (cause.Text ≡ k)
+    by true e = (refl, (let same : cause.Text ≡ k = cc in same))
+    by false e = cc
+
+not_undeclared : cause.Text ≡ cause.Undeclared → ⊥
+not_undeclared e = cc
+
+not_attribute : (name : List ℕ) → cause.Text ≡ cause.Attribute name → ⊥
+not_attribute name e = cc
 
 pub mixed_fine : (first : Declarations) (listed ms : List (List ℕ)) → IsTrue (list_all (fits_name first (Mixed ms)) listed) → (k : Cause) → BreaksBy first (Some (Mixed listed)) (Some (Mixed ms)) [] [] k → ⊥
-mixed_fine first listed ms fits cause.undeclared breaks = breaks
-mixed_fine first listed ms fits cause.content breaks = fits_keeps first listed (Mixed ms) refl fits breaks
-mixed_fine first listed ms fits cause.text breaks = breaks.1
-mixed_fine first listed ms fits (cause.attribute name) breaks = none_odd name breaks.2
+mixed_fine first listed ms fits cause.Undeclared breaks = not_undeclared (odd_text (Mixed listed) (Mixed ms) cause.Undeclared breaks.1).1
+mixed_fine first listed ms fits cause.Content breaks = fits_keeps first listed (Mixed ms) refl fits breaks
+mixed_fine first listed ms fits cause.Text breaks = let off : IsTrue false = (odd_text (Mixed listed) (Mixed ms) cause.Text breaks.1).0 in cc
+mixed_fine first listed ms fits (cause.Attribute name) breaks = not_attribute name (odd_text (Mixed listed) (Mixed ms) (cause.Attribute name) breaks.1).1
 
 -- items with these children
 record Forest (first : Declarations) (names : List (List ℕ)) : Type 0 where
@@ -128,38 +137,43 @@ module _ (first second : Declarations) (e : List ℕ) (named : IsTrue (is_name e
         ),
       )
 
-  text_shown : (a b : Content) → content_in first e ≡ Some a → content_in second e ≡ Some b → IsTrue (is_plain a) → IsTrue (is_plain b) → BreaksBy first (Some a) (Some b) [] [] cause.text → Outcome
-  text_shown Empty b is other s t breaks = absurd breaks.1
+  text_shown : (a b : Content) → content_in first e ≡ Some a → content_in second e ≡ Some b → IsTrue (is_plain a) → IsTrue (is_plain b) → BreaksBy first (Some a) (Some b) [] [] cause.Text → Outcome
+  text_shown Empty b is other s t breaks = absurd (let off : IsTrue false = (odd_text Empty b cause.Text breaks.1).0 in cc)
   text_shown Any b is other s t breaks = cc
   text_shown (Children part) b is other s t breaks = cc
   text_shown (Mixed ns) Any is other s t breaks = cc
   text_shown (Mixed ns) (Children part) is other s t breaks = cc
-  text_shown (Mixed ns) (Mixed ms) is other s t breaks = absurd breaks.1
-  text_shown (Mixed ns) Empty is other s t breaks = shown (Some (Mixed ns)) (Some Empty) is other (chars [] false nothing) refl tt tt (refl, tt, refl) (λ m. let off : IsTrue false = m.1 in cc)
+  text_shown (Mixed ns) (Mixed ms) is other s t breaks = absurd (let off : IsTrue false = (odd_text (Mixed ns) (Mixed ms) cause.Text breaks.1).0 in cc)
+  text_shown (Mixed ns) Empty is other s t breaks = shown (Some (Mixed ns)) (Some Empty) is other (chars [] false nothing) refl tt tt
+      (record { content = refl; suits = record { text = refl; attributes = refl } }) (λ m. let off : IsTrue false = m.suits.text in cc)
 
   content_shown : (a b : Content) → content_in first e ≡ Some a → content_in second e ≡ Some b → IsTrue (is_plain a) → ContentBreaks first a b → Outcome
   content_shown a b is other s breaks =
       let f = forest first breaks.0 breaks.1 in
       let P : List (List ℕ) → Type 0 = λ names. Derives a names in
       let Q : List (List ℕ) → Type 0 = λ names. Derives b names in
-      shown (Some a) (Some b) is other f.items f.white f.well f.meets (subst P (sym f.children) breaks.2, text a f.items s f.alone, refl) (λ m. breaks.3 (subst Q f.children m.0))
+      shown (Some a) (Some b) is other f.items f.white f.well f.meets
+      (record { content = subst P (sym f.children) breaks.2; suits = record { text = text a f.items s f.alone; attributes = refl } }) (λ m. breaks.3 (subst Q f.children m.content))
     where
       text : (a : Content) (items : Items) → IsTrue (is_plain a) → IsTrue (elements_alone items) → TextAllowed (text_kind a) items
       text Empty items s alone = alone
-      text Any items s alone = tt
-      text (Mixed ns) items s alone = tt
+      text Any items s alone = refl
+      text (Mixed ns) items s alone = refl
       text (Children part) items s alone = cc
 
   breaks_shown : (a b : Option Content) → content_in first e ≡ a → content_in second e ≡ b → IsPlainIfAny a → IsPlainIfAny b → (k : Cause) → BreaksBy first a b [] [] k → Outcome
-  breaks_shown None b is other s t k breaks = absurd breaks
-  breaks_shown (Some a) None is other s t cause.undeclared breaks = shown (Some a) None is other nothing refl tt tt (empty_meets (Some a) refl s) (λ m. m)
-  breaks_shown (Some a) None is other s t cause.content breaks = absurd breaks
-  breaks_shown (Some a) None is other s t cause.text breaks = absurd breaks
-  breaks_shown (Some a) None is other s t (cause.attribute name) breaks = absurd breaks
-  breaks_shown (Some a) (Some b) is other s t cause.undeclared breaks = absurd breaks
-  breaks_shown (Some a) (Some b) is other s t cause.content breaks = content_shown a b is other s breaks
-  breaks_shown (Some a) (Some b) is other s t cause.text breaks = text_shown a b is other s t breaks
-  breaks_shown (Some a) (Some b) is other s t (cause.attribute name) breaks = absurd (none_odd name breaks.2)
+  breaks_shown None b is other s t cause.Undeclared breaks = absurd (let e = breaks.1 in cc)
+  breaks_shown None b is other s t cause.Content breaks = absurd breaks
+  breaks_shown None b is other s t cause.Text breaks = absurd (let e = breaks.1 in cc)
+  breaks_shown None b is other s t (cause.Attribute name) breaks = absurd (let e = breaks.1 in cc)
+  breaks_shown (Some a) None is other s t cause.Undeclared breaks = shown (Some a) None is other nothing refl tt tt (empty_meets (Some a) refl s) (λ m. m)
+  breaks_shown (Some a) None is other s t cause.Content breaks = absurd breaks
+  breaks_shown (Some a) None is other s t cause.Text breaks = absurd (let e = breaks.1 in cc)
+  breaks_shown (Some a) None is other s t (cause.Attribute name) breaks = absurd (let e = breaks.1 in cc)
+  breaks_shown (Some a) (Some b) is other s t cause.Undeclared breaks = absurd (not_undeclared (odd_text a b cause.Undeclared breaks.1).1)
+  breaks_shown (Some a) (Some b) is other s t cause.Content breaks = content_shown a b is other s breaks
+  breaks_shown (Some a) (Some b) is other s t cause.Text breaks = text_shown a b is other s t breaks
+  breaks_shown (Some a) (Some b) is other s t (cause.Attribute name) breaks = absurd (not_attribute name (odd_text a b (cause.Attribute name) breaks.1).1)
 
   pub breaks_separates : (k : Cause) → Breaks first second e k → (node : Node) × IsSeparating first second e node
   breaks_separates k breaks = breaks_shown (content_in first e) (content_in second e) refl refl p.content q.content k (breaks_bare first second e k p.bare q.bare breaks)
@@ -193,9 +207,16 @@ useful_named first root names e plain closed at useful = by (bytes_eq e useful.0
     by true same = let P : List ℕ → Type 0 = λ y. IsTrue (among names y) in subst P (sym (bytes_same e useful.0.name same)) (nodes_named first root names useful.0 plain closed at useful.2).0
     by false other = stands_named names e useful.0.items (nodes_named first root names useful.0 plain closed at useful.2).1 (or_other (bytes_eq e useful.0.name) (stands_below e useful.0.items) useful.3 other)
 
+-- what the first does not declare does not break
+none_breaks : (first : Declarations) (b : Option Content) (list more : Definitions) (k : Cause) → BreaksBy first None b list more k → ⊥
+none_breaks first b list more cause.Undeclared breaks = let e = breaks.1 in cc
+none_breaks first b list more cause.Content breaks = breaks
+none_breaks first b list more cause.Text breaks = let e = breaks.1 in cc
+none_breaks first b list more (cause.Attribute name) breaks = let e = breaks.1 in cc
+
 -- the names do not break where no declared one does
 fine_undeclared : (first second : Declarations) (e : List ℕ) (a : Option Content) → is_some a ≡ false → (k : Cause) → BreaksBy first a (content_in second e) (attributes_in first e) (attributes_in second e) k → ⊥
-fine_undeclared first second e None none k breaks = breaks
+fine_undeclared first second e None none k breaks = none_breaks first (content_in second e) (attributes_in first e) (attributes_in second e) k breaks
 fine_undeclared first second e (Some a) none k breaks = cc
 
 fine_declared : (first second : Declarations) (names : List (List ℕ)) (es : List Element) (e : List ℕ) → AllByRecursion (IsFineNamed first second names) es → IsTrue (declared_in es e) → IsTrue (among names e) → IsFine first second e
@@ -237,7 +258,7 @@ kept_before first second root names (e ∷ es) plain closed at fine =
     ((λ useful. fine.0 (useful_named first root names e.0 plain closed at useful)), kept_before first second root names es plain closed at fine.1)
 
 breaks_some : (first : Declarations) (a b : Option Content) (list more : Definitions) (k : Cause) → BreaksBy first a b list more k → IsSome a
-breaks_some first None b list more k breaks = absurd breaks
+breaks_some first None b list more k breaks = absurd (none_breaks first b list more k breaks)
 breaks_some first (Some a) b list more k breaks = refl
 
 pub break_above : (first second : Declarations) (root : List ℕ) (names : List (List ℕ)) (e : List ℕ) (k : Cause) → ((n : List ℕ) → IsPlainAt first n) → ((n : List ℕ) → IsPlainAt second n) → IsClosed first names → IsTrue (among names root) → AllByRecursion (IsReached first root) names → FirstBreak first second names e k
@@ -271,21 +292,21 @@ plain_in set all n = record {
 
 -- EMPTY breaks in no plain content
 pub empty_fine : (first : Declarations) (b : Content) → IsTrue (is_plain b) → (k : Cause) → BreaksBy first (Some Empty) (Some b) [] [] k → ⊥
-empty_fine first b plain cause.undeclared breaks = breaks
-empty_fine first b plain cause.content breaks = by b plain (let P : List (List ℕ) → Type 0 = λ names. Derives b names → ⊥ in subst P breaks.2 breaks.3)
+empty_fine first b plain cause.Undeclared breaks = not_undeclared (odd_text Empty b cause.Undeclared breaks.1).1
+empty_fine first b plain cause.Content breaks = by b plain (let P : List (List ℕ) → Type 0 = λ names. Derives b names → ⊥ in subst P breaks.2 breaks.3)
   where
     by : (b : Content) → IsTrue (is_plain b) → (Derives b [] → ⊥) → ⊥
     by Empty plain out = out refl
     by Any plain out = out tt
     by (Mixed listed) plain out = out refl
     by (Children part) plain out = cc
-empty_fine first b plain cause.text breaks = breaks.1
-empty_fine first b plain (cause.attribute name) breaks = none_odd name breaks.2
+empty_fine first b plain cause.Text breaks = let off : IsTrue false = (odd_text Empty b cause.Text breaks.1).0 in cc
+empty_fine first b plain (cause.Attribute name) breaks = not_attribute name (odd_text Empty b (cause.Attribute name) breaks.1).1
 
 -- where each listed name fits, only text may break the content
 pub text_decides : (first : Declarations) (listed : List (List ℕ)) (b : Content) → IsTrue (is_plain b) → IsTrue (list_all (fits_name first b) listed)
-    → MatchOption (text_cause b) ((k : Cause) → BreaksBy first (Some (Mixed listed)) (Some b) [] [] k → ⊥) (λ k. BreaksBy first (Some (Mixed listed)) (Some b) [] [] (meant k))
-text_decides first listed Empty plain fits = (fits_keeps first listed Empty refl fits, tt)
+    → MatchOption (text_cause b) ((k : Cause) → BreaksBy first (Some (Mixed listed)) (Some b) [] [] k → ⊥) (λ k. BreaksBy first (Some (Mixed listed)) (Some b) [] [] k)
+text_decides first listed Empty plain fits = (fits_keeps first listed Empty refl fits, refl)
 text_decides first listed Any plain fits = cc
 text_decides first listed (Mixed ms) plain fits = mixed_fine first listed ms fits
 text_decides first listed (Children part) plain fits = cc

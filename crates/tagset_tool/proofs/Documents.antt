@@ -13,11 +13,12 @@ use Rattle.document_trees.specs.Trees.{Items, nothing, element, chars, comment, 
 use Rattle.decl_set.specs.Validity.{IsValid, IsSeparating, Meets, MeetsContent}
 use Rattle.document_trees.specs.Trees.{stands_below}
 use Rattle.decl_set.specs.Validity.{HasDocument, IsUseful}
-use Rattle.decl_set.specs.Breaks.{Cause, ContentBreaks, BreaksBy, Breaks}
+use Rattle.decl_set.specs.declared.breaks.Cause.{Cause}
+use Rattle.decl_set.specs.Breaks.{ContentBreaks, BreaksBy, Breaks}
 use Rattle.tagset_tool.specs.Plain.{IsPlainIfAny, IsPlainAt}
 use Rattle.tagset_tool.specs.Reached.{Around, IsReached}
 use Rattle.tagset_tool.specs.Checks.{IsFine}
-use Rattle.decl_set.specs.Breaks as cause
+use Rattle.decl_set.specs.declared.breaks.Cause.TheVariants as cause
 
 -- an element with nothing in it
 abbrev pub leaf : List ℕ → Node
@@ -45,9 +46,9 @@ breaks_bare first second e k one other breaks =
 
 pub empty_meets : (o : Option Content) → IsSome o → IsPlainIfAny o → MeetsContent o [] [] nothing
 empty_meets None some plain = cc
-empty_meets (Some Empty) some plain = (refl, refl, refl)
-empty_meets (Some Any) some plain = (tt, tt, refl)
-empty_meets (Some (Mixed listed)) some plain = (refl, tt, refl)
+empty_meets (Some Empty) some plain = record { content = refl; suits = record { text = refl; attributes = refl } }
+empty_meets (Some Any) some plain = record { content = tt; suits = record { text = refl; attributes = refl } }
+empty_meets (Some (Mixed listed)) some plain = record { content = refl; suits = record { text = refl; attributes = refl } }
 empty_meets (Some (Children part)) some plain = cc
 
 pub leaf_valid : (set : Declarations) (e : List ℕ) → IsSome (content_in set e) → IsPlainAt set e → IsValid set e (leaf e)
@@ -89,7 +90,7 @@ child_reached first root e n listed reached bare is here named = record {
       let P : List ℕ → Type 0 = λ name. IsTrue (among listed name && true) in
       let Q : Option Content → Type 0 = λ o. MeetsContent o [] [] outer.items in
       let derived : P inner.name = subst P (sym valid.0) (and_true (among listed n) here) in
-      let meets : Meets first e [] outer.items = bare_meets first e [] outer.items bare (subst Q (sym is) (derived, tt, refl)) in
+      let meets : Meets first e [] outer.items = bare_meets first e [] outer.items bare (subst Q (sym is) (record { content = derived; suits = record { text = refl; attributes = refl } })) in
       let around : Around first root outer = reached.wraps outer (record { named = reached.named; attributes = refl; beside = refl }, (document.0, document.1, tt)) (refl, (meets, (valid.1.0, valid.1.1, tt))) in
       record {
         node = around.node;
@@ -138,9 +139,9 @@ meets_some (Some content) list atts items meets = refl
 pub children_listed : (o : Option Content) (list : Definitions) (atts : List (List ℕ × List ℕ)) (items : Items) → IsPlainIfAny o → MeetsContent o list atts items
     → (listed : List (List ℕ)) × IsTrue (list_all (among listed) (child_names items)) × (o ≡ Some (Mixed listed) ⊎ listed ≡ [])
 children_listed None list atts items plain meets = absurd meets
-children_listed (Some Empty) list atts items plain meets = ([], rw meets.0 refl, inr refl)
+children_listed (Some Empty) list atts items plain meets = ([], rw meets.content refl, inr refl)
 children_listed (Some Any) list atts items plain meets = cc
-children_listed (Some (Mixed listed)) list atts items plain meets = (listed, meets.0, inl refl)
+children_listed (Some (Mixed listed)) list atts items plain meets = (listed, meets.content, inl refl)
 children_listed (Some (Children part)) list atts items plain meets = cc
 
 -- closed names lead from each of them to its children
@@ -176,19 +177,20 @@ children_documented first (pi target body later) well meets = children_documente
 bare_fine : (first : Declarations) (a b : Option Content) (atts : List (List ℕ × List ℕ)) (items : Items) → IsPlainIfAny a → IsPlainIfAny b → ((k : Cause) → BreaksBy first a b [] [] k → ⊥)
     → AllByRecursion (HasDocument first) (child_names items) → MeetsContent a [] atts items → MeetsContent b [] atts items
 bare_fine first None b atts items p q fine documented meets = absurd meets
-bare_fine first (Some a) None atts items p q fine documented meets = absurd (fine cause.undeclared tt)
+bare_fine first (Some a) None atts items p q fine documented meets = absurd (fine cause.Undeclared ((λ none. none), refl))
 bare_fine first (Some Any) (Some b) atts items p q fine documented meets = cc
 bare_fine first (Some (Children part)) (Some b) atts items p q fine documented meets = cc
 bare_fine first (Some a) (Some Any) atts items p q fine documented meets = cc
 bare_fine first (Some a) (Some (Children part)) atts items p q fine documented meets = cc
 bare_fine first (Some Empty) (Some Empty) atts items p q fine documented meets = meets
-bare_fine first (Some Empty) (Some (Mixed ms)) atts items p q fine documented meets = (rw meets.0 refl, tt, meets.2)
-bare_fine first (Some (Mixed ns)) (Some Empty) atts items p q fine documented meets = absurd (fine cause.text (fine cause.content, tt))
-bare_fine first (Some (Mixed ns)) (Some (Mixed ms)) atts items p q fine documented meets = (by (list_all (among ms) (child_names items)) refl, tt, meets.2)
+bare_fine first (Some Empty) (Some (Mixed ms)) atts items p q fine documented meets = record { content = rw meets.content refl; suits = record { text = refl; attributes = meets.suits.attributes } }
+bare_fine first (Some (Mixed ns)) (Some Empty) atts items p q fine documented meets = absurd (fine cause.Text (fine cause.Content, refl))
+bare_fine first (Some (Mixed ns)) (Some (Mixed ms)) atts items p q fine documented meets =
+    record { content = by (list_all (among ms) (child_names items)) refl; suits = record { text = refl; attributes = meets.suits.attributes } }
   where
     by : (t : Bool) → list_all (among ms) (child_names items) ≡ t → IsTrue (list_all (among ms) (child_names items))
     by true e = e
-    by false e = absurd (fine cause.content (child_names items, documented, meets.0, λ d. let no : IsTrue false = sym e ∙ d in cc))
+    by false e = absurd (fine cause.Content (child_names items, documented, meets.content, λ d. let no : IsTrue false = sym e ∙ d in cc))
 
 -- a node of an element that does not break meets the second set
 pub fine_meets : (first second : Declarations) (e : List ℕ) (atts : List (List ℕ × List ℕ)) (items : Items) → IsPlainAt first e → IsPlainAt second e → IsFine first second e

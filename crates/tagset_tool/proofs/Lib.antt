@@ -6,6 +6,7 @@ pub mod Causes
 pub mod Counted
 pub mod Documents
 pub mod Heads
+pub mod Leaving
 pub mod Names
 pub mod OneOutput
 pub mod Outcomes

@@ -1,15 +1,16 @@
 -- Words and files have one output.
-use Rattle.std.proofs.Common.{◌≡◌, ◌∙◌, ℕ, Bool, true, false, ◌&&◌, List, [], ◌∷◌, ◌++◌, sym, ap, subst, Some, None, refl}
+use Rattle.std.proofs.Common.{◌≡◌, ◌∙◌, ◌⊎◌, inl, inr, ℕ, Bool, true, false, ◌&&◌, List, [], ◌∷◌, ◌++◌, sym, ap, subst, Some, None, refl}
 use Rattle.std.specs.Prelude.{Option, encode_utf8_all}
 use Rattle.std.specs.List.{AllByRecursion}
 use Rattle.content_models.specs.declared.content.Content.{Content}
 use Rattle.attlist_merge.specs.Lists.{Definitions}
 use Rattle.decl_set.specs.Declarations.{Declarations, content_in, attributes_in}
-use Rattle.decl_set.specs.Breaks.{IsKept, IsFirstBroken, Breaks, BreaksBy}
+use Rattle.decl_set.specs.declared.breaks.Cause.{Cause}
+use Rattle.decl_set.specs.Breaks.{BothBreak, OddBreaks, IsKept, IsFirstBroken, Breaks, BreaksBy}
 use Rattle.dtd_flattener.specs.Flat.{flat_text}
 use Rattle.module_reader.specs.Sources.{Files}
 use Rattle.tagset_tool.specs.Plain.{is_plain_set}
-use Rattle.tagset_tool.specs.Verdicts.{IsVerdict, meant}
+use Rattle.tagset_tool.specs.Verdicts.{IsVerdict}
 use Rattle.tagset_tool.specs.Counts.{count_lines}
 use Rattle.tagset_tool.specs.Outcomes.{IsUnique, after, answering, fitting}
 use Rattle.tagset_tool.specs.Output.{IsOutput, outcome_of, usage_line}
@@ -17,9 +18,8 @@ use Rattle.tagset_tool.specs.Refusals.{form_unbuilt, root_undeclared}
 use Rattle.tagset_tool.specs.Words.{Asked, SetWords, check, flatten, compare, asked, set_by}
 use Rattle.tagset_tool.specs.commands.Compare.{compares, from_root, over_plain, over_sets, root_in, verdict_status, verdict_lines}
 use Rattle.tagset_tool.proofs.Outcomes.{after_unique, answering_unique, fitting_unique, refusing_unique}
-use Rattle.tagset_tool.specs.declared.comparison.Cause.{Cause as Given}
-use Rattle.tagset_tool.specs.declared.comparison.Cause.TheVariants as given
-use Rattle.tagset_tool.specs.declared.comparison.BrokenDecl.{BrokenDecl}
+use Rattle.decl_set.specs.declared.breaks.Cause.TheVariants as cause
+use Rattle.decl_set.specs.declared.breaks.BrokenDecl.{BrokenDecl}
 use Rattle.tagset_tool.specs.declared.comparison.Verdict.{Verdict}
 use Rattle.tagset_tool.specs.declared.comparison.Verdict.TheVariants as verdict
 
@@ -30,32 +30,36 @@ first_without K [] (y ∷ ys) p q after more same all each off out = let e : y �
 first_without K (x ∷ xs) [] p q after more same all each off out = let e : x ≡ q = cc in absurd (out (subst K e all.0))
 first_without K (x ∷ xs) (y ∷ ys) p q after more same all each off out = let e : xs ++ p ∷ after ≡ ys ++ q ∷ more = cc in first_without K xs ys p q after more e all.1 each.1 off out
 
--- an element breaks by one cause of the three that are given
-one_cause : (first : Declarations) (a b : Option Content) (list other : Definitions) (k l : Given) → BreaksBy first a b list other (meant k) → BreaksBy first a b list other (meant l) → k ≡ l
-one_cause first None b list other k l breaks more = absurd breaks
-one_cause first (Some a) None list other given.Undeclared given.Undeclared breaks more = refl
-one_cause first (Some a) None list other given.Undeclared given.Content breaks more = absurd more
-one_cause first (Some a) None list other given.Undeclared given.Text breaks more = absurd more
-one_cause first (Some a) None list other given.Content l breaks more = absurd breaks
-one_cause first (Some a) None list other given.Text l breaks more = absurd breaks
-one_cause first (Some a) (Some b) list other given.Undeclared l breaks more = absurd breaks
-one_cause first (Some a) (Some b) list other given.Content given.Undeclared breaks more = absurd more
-one_cause first (Some a) (Some b) list other given.Content given.Content breaks more = refl
-one_cause first (Some a) (Some b) list other given.Content given.Text breaks more = absurd (more.0 breaks)
-one_cause first (Some a) (Some b) list other given.Text given.Undeclared breaks more = absurd more
-one_cause first (Some a) (Some b) list other given.Text given.Content breaks more = absurd (breaks.0 more)
-one_cause first (Some a) (Some b) list other given.Text given.Text breaks more = refl
+-- an element breaks by its content, or is odd
+by_odd : (first : Declarations) (a b : Option Content) (list other : Definitions) (k : Cause) → BreaksBy first a b list other k → (k ≡ cause.Content) × BothBreak first a b ⊎ OddBreaks first a b list other k
+by_odd first a b list other cause.Undeclared breaks = inr breaks
+by_odd first a b list other cause.Content breaks = inl (refl, breaks)
+by_odd first a b list other cause.Text breaks = inr breaks
+by_odd first a b list other (cause.Attribute name) breaks = inr breaks
 
-abbrev broken_by : List ℕ → Given → BrokenDecl
+some_same : (k l : Cause) → Some k ≡ Some l → k ≡ l
+some_same k l e = cc
+
+-- an element breaks by one cause
+one_cause : (first : Declarations) (a b : Option Content) (list other : Definitions) (k l : Cause) → BreaksBy first a b list other k → BreaksBy first a b list other l → k ≡ l
+one_cause first a b list other k l breaks more = by (by_odd first a b list other k breaks) (by_odd first a b list other l more)
+  where
+    by : ((k ≡ cause.Content) × BothBreak first a b ⊎ OddBreaks first a b list other k) → ((l ≡ cause.Content) × BothBreak first a b ⊎ OddBreaks first a b list other l) → k ≡ l
+    by (inl p) (inl q) = p.0 ∙ sym q.0
+    by (inl p) (inr q) = absurd (q.0 p.1)
+    by (inr p) (inl q) = absurd (p.0 q.1)
+    by (inr p) (inr q) = some_same k l (sym p.1 ∙ q.1)
+
+abbrev broken_by : List ℕ → Cause → BrokenDecl
 broken_by element cause = record { element = element; cause = cause }
 
-one_broken : (first second : Declarations) (root : List ℕ) (d e : BrokenDecl) → IsFirstBroken first second root d.element (meant d.cause) → IsFirstBroken first second root e.element (meant e.cause) → d ≡ e
+one_broken : (first second : Declarations) (root : List ℕ) (d e : BrokenDecl) → IsFirstBroken first second root d.element d.cause → IsFirstBroken first second root e.element e.cause → d ≡ e
 one_broken first second root d e one other =
     let pairs : (d.element, one.declared) ≡ (e.element, other.declared) =
     first_without (IsKept first second root) one.before other.before (d.element, one.declared) (e.element, other.declared) one.after other.after (sym one.place ∙ other.place) one.kept other.kept
-    (λ k. k one.useful (meant d.cause) one.breaks) (λ k. k other.useful (meant e.cause) other.breaks) in
+    (λ k. k one.useful d.cause one.breaks) (λ k. k other.useful e.cause other.breaks) in
     let names : d.element ≡ e.element = ap (λ (p : List ℕ × Content). p.0) pairs in
-    let P : List ℕ → Type 0 = λ n. Breaks first second n (meant d.cause) in
+    let P : List ℕ → Type 0 = λ n. Breaks first second n d.cause in
     let causes : d.cause ≡ e.cause = one_cause first (content_in first e.element) (content_in second e.element) (attributes_in first e.element) (attributes_in second e.element) d.cause e.cause (subst P names one.breaks) other.breaks in
     ap (λ n. broken_by n d.cause) names ∙ ap (λ k. broken_by e.element k) causes
 
@@ -66,7 +70,7 @@ one_verdict first second root (verdict.Above d) verdict.Subset one other = absur
 one_verdict first second root (verdict.Above d) (verdict.Above e) one other = ap (λ x. verdict.Above x) (one_broken first second root d e one.1 other.1)
 
 root_unique : (first second : Declarations) (root : List ℕ) (o : Option Content) → IsUnique (from_root first second root o)
-root_unique first second root None = refusing_unique (root_undeclared root)
+root_unique first second root None s t b c one other = refusing_unique (root_undeclared root) s t b c one other
 root_unique first second root (Some content) s t b c one other =
     let same = one_verdict first second root one.verdict other.verdict one.true other.true in
     (one.status_is ∙ ap verdict_status same ∙ sym other.status_is, one.bytes_are ∙ ap verdict_lines same ∙ sym other.bytes_are)

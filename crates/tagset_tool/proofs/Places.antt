@@ -5,7 +5,8 @@ use Rattle.std.specs.List.{AllByRecursion}
 use Rattle.content_models.specs.declared.content.Content.{Content}
 use Rattle.content_models.specs.Model.{among}
 use Rattle.decl_set.specs.Declarations.{Declarations, name_of}
-use Rattle.decl_set.specs.Breaks.{Cause, Breaks}
+use Rattle.decl_set.specs.declared.breaks.Cause.{Cause}
+use Rattle.decl_set.specs.Breaks.{Breaks}
 use Rattle.tagset_tool.specs.Checks.{IsFine, IsFineNamed, FirstBreak, FineAt, BreakAt}
 
 pub all_next : {X : Type 0} (P : X → Type 0) (xs : List X) (i : ℕ) → AllByRecursion P (take i xs) → ((x : X) → slice_get xs i ≡ Some x → P x) → AllByRecursion P (take (suc i) xs)

@@ -7,9 +7,8 @@ use Rattle.content_models.specs.declared.content.Content.TheVariants.{Empty, Any
 use Rattle.content_models.specs.Model.{among}
 use Rattle.decl_set.specs.Declarations.{Declarations, Element, content_in}
 use Rattle.decl_set.specs.Breaks.{Breaks}
-use Rattle.decl_set.specs.Breaks.{Cause}
-use Rattle.tagset_tool.specs.declared.comparison.Cause.{Cause as Given}
-use Rattle.tagset_tool.specs.declared.comparison.Cause.TheVariants as given
+use Rattle.decl_set.specs.declared.breaks.Cause.{Cause}
+use Rattle.decl_set.specs.declared.breaks.Cause.TheVariants as cause
 
 -- whether the set declares the element
 abbrev pub declared : Declarations → List ℕ → Bool
@@ -111,8 +110,8 @@ pub record BreakAt (first second : Declarations) (names : List (List ℕ)) (at :
   pub breaks : Breaks first second name k
 
 -- why a mixed content whose names all stand in the other one breaks
-abbrev pub text_cause : Content → Option Given
-text_cause Empty = Some given.Text
+abbrev pub text_cause : Content → Option Cause
+text_cause Empty = Some cause.Text
 text_cause Any = None
 text_cause (Mixed listed) = None
 text_cause (Children part) = None

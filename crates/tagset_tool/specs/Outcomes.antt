@@ -18,16 +18,16 @@ refusing refusal = answering 2 (line_of refusal)
 
 -- the refusal, or what comes of what was read
 abbrev pub after : {X : Type 0} → Result X Fault → (X → Outcome) → Outcome
-after (Err refusal) next = refusing refusal
-after (Ok x) next = next x
+after (Err refusal) next status bytes = refusing refusal status bytes
+after (Ok x) next status bytes = next x status bytes
 
 -- how many bytes an output has at most
 abbrev pub most_written : ℕ
 most_written = 268435456
 
 abbrev pub fitting_by : Bool → ℕ → List ℕ → Outcome
-fitting_by true wanted text = refusing output_over
-fitting_by false wanted text = answering wanted text
+fitting_by true wanted text status bytes = refusing output_over status bytes
+fitting_by false wanted text status bytes = answering wanted text status bytes
 
 -- the text with this status, or the refusal of one that is too long
 abbrev pub fitting : ℕ → List ℕ → Outcome

@@ -5,7 +5,7 @@ ghost use Rattle.decl_set.specs.Declarations.{Declarations};
 ghost use Rattle.jats_fault.specs.Table.{table, has_number};
 ghost use Rattle.module_reader.specs.Outcomes.{IsAbsence};
 ghost use Rattle.tagset_tool.specs.Outcomes.{refusing};
-ghost use Rattle.tagset_tool.specs.Runs.{AnswersAbsence, Says, StopsAs};
+ghost use Rattle.tagset_tool.specs.Runs.{AnswersAbsence, Says, StandsInTable, StopsAs};
 
 use jats_chars::NoMemory;
 use jats_fault::{Fault, line};
@@ -43,7 +43,7 @@ pub fn refused(alloc: Global, refusal: &Fault) -> Result<Answer, NoMemory>
 
 /// The answer where a set is not read.
 pub fn stop_of(alloc: Global, fault: &ReadFault) -> Result<Answer, Stop>
-    requires { IsNumbered fault.now }
+    requires { StandsInTable fault.now }
     ensures stops { StopsAs fault.now result }
     ensures says { IfOk result (λ a. Says a.status a.bytes.items) }
     ensures absence { AnswersAbsence result → IsAbsence {T = Declarations} (Err fault.now) }

@@ -10,31 +10,20 @@ ghost use Rattle.tagset_tool.specs.Plain.{is_plain, IsPlain};
 ghost use Rattle.tagset_tool.specs.Reached.{IsReached};
 ghost use Rattle.decl_set.specs.Declarations.{content_in};
 ghost use Rattle.decl_set.specs.Validity.{HasDocument};
-ghost use Rattle.decl_set.specs.Breaks.{Cause as Reason, BreaksBy, Breaks};
-ghost use Rattle.tagset_tool.specs.Verdicts.{IsVerdict, meant};
+ghost use Rattle.decl_set.specs.Breaks.{BreaksBy, Breaks};
+ghost use Rattle.decl_set.specs.declared.breaks.Cause.{Cause as Reason};
+ghost use Rattle.tagset_tool.specs.Verdicts.{IsVerdict};
 
 use crate::name_set::NameSet;
 use content_models::Content;
-use decl_set::DeclSet;
+use decl_set::{BrokenDecl, Cause, DeclSet};
 use jats_chars::{Name, NoMemory};
 use std::alloc::Global;
 
-/// Why an element of the first set is not one of the second.
-#[derive(Clone, Copy, Debug, PartialEq, Eq)]
-pub enum Cause {
-    Undeclared,
-    Content,
-    Text,
-}
-
-#[derive(Debug, Drop)]
-pub struct BrokenDecl {
-    pub element: Name,
-    pub cause: Cause,
-}
-
+/// What a comparison says.
 #[derive(Debug, Drop)]
 pub enum Verdict {
+    /// No document separates.
     Subset,
     /// There is a separating document, and none without elements.
     Above(BrokenDecl),
@@ -87,7 +76,7 @@ fn content_cause(first: &DeclSet, one: &Content, other: &Content) -> Option<Caus
     requires first { IsPlain first.now }
     requires one { IsTrue (is_plain one.now) }
     requires other { IsTrue (is_plain other.now) }
-    ensures { MatchOption result ((k : Reason) → BreaksBy first.now (Some one.now) (Some other.now) [] [] k → ⊥) (λ k. BreaksBy first.now (Some one.now) (Some other.now) [] [] (meant k)) }
+    ensures { MatchOption result ((k : Reason) → BreaksBy first.now (Some one.now) (Some other.now) [] [] k → ⊥) (λ k. BreaksBy first.now (Some one.now) (Some other.now) [] [] k) }
 {
     match one {
         Content::Empty => None,
@@ -114,7 +103,7 @@ fn text_cause(other: &Content) -> Option<Cause>
 fn cause_of(first: &DeclSet, second: &DeclSet, name: &Name) -> Option<Cause>
     requires first { IsPlain first.now }
     requires second { IsPlain second.now }
-    ensures { MatchOption result (spec.IsFine first.now second.now name.now) (λ k. Breaks first.now second.now name.now (meant k)) }
+    ensures { MatchOption result (spec.IsFine first.now second.now name.now) (λ k. Breaks first.now second.now name.now k) }
 {
     match first.content_of(name) {
         None => None,
@@ -200,7 +189,7 @@ fn useful_names(alloc: Global, first: &DeclSet, root: &Name) -> Result<NameSet, 
 fn named_cause(first: &DeclSet, second: &DeclSet, names: &NameSet, name: &Name) -> Option<Cause>
     requires first { IsPlain first.now }
     requires second { IsPlain second.now }
-    ensures { MatchOption result (IsTrue (among names.now name.now) → spec.IsFine first.now second.now name.now) (λ k. IsTrue (among names.now name.now) × Breaks first.now second.now name.now (meant k)) }
+    ensures { MatchOption result (IsTrue (among names.now name.now) → spec.IsFine first.now second.now name.now) (λ k. IsTrue (among names.now name.now) × Breaks first.now second.now name.now k) }
 {
     if names.contains(name) {
         cause_of(first, second, name)
@@ -218,7 +207,7 @@ fn break_at<'a>(
 ) -> Option<(&'a Name, Cause)>
     requires first { IsPlain first.now }
     requires second { IsPlain second.now }
-    ensures { MatchOption result (spec.FineAt first.now second.now names.now at) (λ p. spec.BreakAt first.now second.now names.now at p.0.now (meant p.1)) }
+    ensures { MatchOption result (spec.FineAt first.now second.now names.now at) (λ p. spec.BreakAt first.now second.now names.now at p.0.now p.1) }
 {
     match first.name_at(at) {
         None => None,
@@ -238,7 +227,7 @@ fn first_broken(
 ) -> Result<Option<BrokenDecl>, NoMemory>
     requires first { IsPlain first.now }
     requires second { IsPlain second.now }
-    ensures { IfOk result (λ o. MatchOption o (AllByRecursion (spec.IsFineNamed first.now second.now names.now) first.now.elements) (λ d. spec.FirstBreak first.now second.now names.now d.element (meant d.cause))) }
+    ensures { IfOk result (λ o. MatchOption o (AllByRecursion (spec.IsFineNamed first.now second.now names.now) first.now.elements) (λ d. spec.FirstBreak first.now second.now names.now d.element d.cause)) }
 {
     for i in 0..first.count() {
         if let Some((name, cause)) = break_at(first, second, names, i) {

@@ -5,6 +5,7 @@ ghost use Rattle.std.specs.Option.{option_copied};
 ghost use Rattle.jats_io.specs.Causes.{HasCause};
 ghost use Rattle.module_reader.specs.Outcomes.{LoadFailed, IsAbsence, Reads};
 ghost use Rattle.module_reader.specs.Sets.{set_of};
+ghost use Rattle.tagset_tool.specs.Runs.{IsNumbered};
 ghost use Rattle.tagset_tool.specs.Words as spec;
 
 use decl_set::DeclSet;
@@ -63,6 +64,7 @@ fn read_named<S: Store>(
     ensures keeps { S.holds store.new ≡ S.holds store.old }
     ensures faults { HasCause (S.faults store.old) (S.faults store.new) (LoadFailed result) }
     ensures absences { HasCause (S.absences store.old) (S.absences store.new) (IsAbsence result) }
+    ensures numbered { IsNumbered result }
     ensures told { IfSome (S.holds store.old) (λ files. Reads (set_of files (option_copied catalog.entry) entry.now) result) }
 {
     let catalog = match load_catalog(alloc, store, catalog) {
@@ -83,6 +85,7 @@ pub fn read_words<S: Store>(
     ensures keeps { S.holds store.new ≡ S.holds store.old }
     ensures faults { HasCause (S.faults store.old) (S.faults store.new) (LoadFailed result) }
     ensures absences { HasCause (S.absences store.old) (S.absences store.new) (IsAbsence result) }
+    ensures numbered { IsNumbered result }
     ensures told { IfSome (S.holds store.old) (λ files. Reads (spec.set_by files (spec.set_words words.now at)) result) }
 {
     let catalog = catalog_word(&words[at]);

@@ -5,9 +5,9 @@ use Rattle.content_models.specs.declared.content.Content.{Content}
 use Rattle.decl_set.specs.Declarations.{Declarations, content_in}
 use Rattle.decl_set.specs.Validity.{HasDocument}
 use Rattle.module_reader.specs.Sources.{Files}
-use Rattle.tagset_tool.specs.declared.comparison.Cause.{Cause}
-use Rattle.tagset_tool.specs.declared.comparison.Cause.TheVariants as cause
-use Rattle.tagset_tool.specs.declared.comparison.BrokenDecl.{BrokenDecl}
+use Rattle.decl_set.specs.declared.breaks.Cause.{Cause}
+use Rattle.decl_set.specs.declared.breaks.Cause.TheVariants as cause
+use Rattle.decl_set.specs.declared.breaks.BrokenDecl.{BrokenDecl}
 use Rattle.tagset_tool.specs.declared.comparison.Verdict.{Verdict}
 use Rattle.tagset_tool.specs.declared.comparison.Verdict.TheVariants as verdict
 use Rattle.tagset_tool.specs.Outcomes.{Outcome, after, refusing}
@@ -20,6 +20,7 @@ abbrev pub cause_name : Cause → List ℕ
 cause_name cause.Undeclared = codes "undeclared"
 cause_name cause.Content = codes "content"
 cause_name cause.Text = codes "text"
+cause_name (cause.Attribute name) = codes "attribute " ++ encode_utf8_all name
 
 -- the first useful element that breaks, with its cause
 abbrev pub broken_line : BrokenDecl → List ℕ
@@ -51,13 +52,13 @@ root_in set root = if is_name root then content_in set root else None
 
 -- from a root that the first set declares
 abbrev pub from_root : Declarations → Declarations → List ℕ → Option Content → Outcome
-from_root first second root None = refusing (root_undeclared root)
-from_root first second root (Some content) = IsAnswer first second root
+from_root first second root None status bytes = refusing (root_undeclared root) status bytes
+from_root first second root (Some content) status bytes = IsAnswer first second root status bytes
 
 -- sets that are not both plain are refused
 abbrev pub over_plain : Declarations → Declarations → List ℕ → Bool → Outcome
-over_plain first second root false = refusing form_unbuilt
-over_plain first second root true = from_root first second root (root_in first root)
+over_plain first second root false status bytes = refusing form_unbuilt status bytes
+over_plain first second root true status bytes = from_root first second root (root_in first root) status bytes
 
 -- over two sets
 abbrev pub over_sets : Declarations → Declarations → List ℕ → Outcome

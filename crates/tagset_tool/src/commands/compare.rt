@@ -9,23 +9,29 @@ ghost use Rattle.tagset_tool.specs.Words as asked;
 ghost use Rattle.tagset_tool.specs.commands.Compare as spec;
 
 use crate::answer::{Answer, Stop, refused, stop_of};
-use crate::comparison::{BrokenDecl, Cause, Verdict, compare};
+use crate::comparison::{Verdict, compare};
 use crate::plain_sets::is_plain;
 use crate::refusals::{form_unbuilt, root_undeclared};
 use crate::words::read_words;
-use decl_set::DeclSet;
+use decl_set::{BrokenDecl, Cause, DeclSet};
 use jats_chars::{Name, NoMemory, Text};
 use jats_io::Store;
 use std::alloc::Global;
 
-fn cause_name(cause: Cause) -> &'static str
-    ensures { result.now ≡ spec.cause_name cause }
+/// The word of a cause; an attribute is named behind it.
+fn cause_name(alloc: Global, cause: &Cause) -> Result<String, NoMemory>
+    ensures { IfOk result (λ s. string_bytes s ≡ spec.cause_name cause.now) }
 {
-    match cause {
-        Cause::Undeclared => "undeclared",
-        Cause::Content => "content",
-        Cause::Text => "text",
-    }
+    let word = match cause {
+        Cause::Undeclared => "undeclared".to_string(alloc)?,
+        Cause::Content => "content".to_string(alloc)?,
+        Cause::Text => "text".to_string(alloc)?,
+        Cause::Attribute(name) => {
+            let name = shown(alloc, name.text())?;
+            format!(in alloc; "attribute {name}")?
+        }
+    };
+    Ok(word)
 }
 
 /// The text in UTF-8.
@@ -40,7 +46,7 @@ fn above_lines(alloc: Global, broken: &BrokenDecl) -> Result<Vec<u8>, NoMemory>
     ensures { IfOk result (λ v. v.items ≡ spec.verdict_lines (Verdict.Above broken.now)) }
 {
     let element = shown(alloc, broken.element.text())?;
-    let cause = cause_name(broken.cause);
+    let cause = cause_name(alloc, &broken.cause)?;
     let lines = format!(in alloc; "not subset\nabove 0\nbroken {element} {cause}\n")?;
     Ok(lines.into_bytes())
 }

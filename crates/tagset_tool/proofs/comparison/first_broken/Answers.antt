@@ -1,13 +1,12 @@
 use Rattle.std.proofs.Common.{add-one, List, ℕ, subst, sym}
 use Rattle.tagset_tool.specs.Checks.{IsFineNamed, BreakAt}
-use Rattle.tagset_tool.specs.Verdicts.{meant}
 use Rattle.tagset_tool.proofs.Places.{all_next, first_break}
 use Rattle.tagset_tool.proofs.comparison.first_broken.Goals as goal
 
 pub returns-in-Some : goal.returns-in-Some
 returns-in-Some c =
-    let P : List ℕ → Type 0 = λ n. BreakAt c.args.first.now c.args.second.now c.args.names.now c.loop-i.i n (meant c.in-Some.cause) in
-    first_break c.args.first.now c.args.second.now c.args.names.now c.loop-i.i c.in_ok-element.element (meant c.in-Some.cause) c.loop-i.invariant
+    let P : List ℕ → Type 0 = λ n. BreakAt c.args.first.now c.args.second.now c.args.names.now c.loop-i.i n c.in-Some.cause in
+    first_break c.args.first.now c.args.second.now c.args.names.now c.loop-i.i c.in_ok-element.element c.in-Some.cause c.loop-i.invariant
     (subst P (sym c.in_ok-element.ensures) c.in-Some.ensures)
 
 pub loop-i-preserved : goal.loop-i-preserved

@@ -1,5 +1,4 @@
 use Rattle.tagset_tool.proofs.Names.{closed_of}
-use Rattle.tagset_tool.specs.Verdicts.{meant}
 use Rattle.tagset_tool.proofs.Breaks.{no_break_subset, break_above, plain_in}
 use Rattle.tagset_tool.proofs.comparison.verdict_of.Goals as goal
 
@@ -10,5 +9,5 @@ returns-in-None c =
 
 pub returns : goal.returns
 returns c =
-    break_above c.args.first.now c.args.second.now c.args.root.now c.in_ok-names.names c.in-Some.broken.element (meant c.in-Some.broken.cause) (plain_in c.args.first.now c.requires.first) (plain_in c.args.second.now c.requires.second) (closed_of c.args.first.now c.in_ok-names.names c.in_ok-names.ensures.closed) c.in_ok-names.ensures.root c.in_ok-names.ensures.reached
+    break_above c.args.first.now c.args.second.now c.args.root.now c.in_ok-names.names c.in-Some.broken.element c.in-Some.broken.cause (plain_in c.args.first.now c.requires.first) (plain_in c.args.second.now c.requires.second) (closed_of c.args.first.now c.in_ok-names.names c.in_ok-names.ensures.closed) c.in_ok-names.ensures.root c.in_ok-names.ensures.reached
     (rw c.in-Some.is at c.in_ok-first_broken.ensures)

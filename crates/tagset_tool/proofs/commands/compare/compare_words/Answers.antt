@@ -9,7 +9,7 @@ pub returns-in-Ok-compared-clause-absences : goal.returns-in-Ok-compared-clause-
 returns-in-Ok-compared-clause-absences g c =
     let first = c.read_words.ensures.absences.later in
     let second = c.read_words-2.ensures.absences.later in
-    no_cause _ _ _ (omega arith) (sets_present _ _ _ c.in-Ok-compared.answer.status c.in-Ok-compared.answer.bytes.items c.in-Ok-compared.ensures)
+    no_cause _ _ _ (omega arith) (sets_present c.in-Ok.set c.in-Ok-read_words.set c.index-words-5.result c.in-Ok-compared.answer.status c.in-Ok-compared.answer.bytes.items c.in-Ok-compared.ensures)
 
 pub returns-in-Ok-compared-clause-told : goal.returns-in-Ok-compared-clause-told
 returns-in-Ok-compared-clause-told g c =
