@@ -1,1 +1,5 @@
 pub mod Deriving
+pub mod Structure
+pub mod Differing
+pub mod Linking
+pub mod Valid

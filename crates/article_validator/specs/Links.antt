@@ -1,6 +1,6 @@
 -- IDs, references to them, and names of unparsed entities in an article (XML 1.0, 3.3.1).
 use Rattle.std.specs.Prelude.{ℕ, Bool, true, false, List, [], ◌∷◌, ◌++◌, Option, Some, None, IsTrue, if◌then◌else◌}
-use Rattle.std.specs.List.{flat_map, AllByRecursion}
+use Rattle.std.specs.List.{flat_map, list_all, AllByRecursion}
 use Rattle.content_models.specs.declared.content.Content.{Content}
 use Rattle.document_trees.specs.Trees.{Attribute, Node, has_attribute, nodes_in}
 use Rattle.attribute_types.specs.Classes.{among, in_class}
@@ -147,8 +147,8 @@ Differ (id ∷ ids) = (IsTrue (among ids id) → ⊥) × Differ ids
 
 -- each ID to which the node refers is one of the article, and each entity that it names is unparsed
 pub record IsLinked (set : Declarations) (all : List (List ℕ)) (node : Node) : Type 0 where
-  pub targets : AllByRecursion (λ target. IsTrue (among all target)) (flat_map targets_of (links_in set node))
-  pub entities : AllByRecursion (λ entity. IsTrue (is_unparsed set entity)) (flat_map entities_of (links_in set node))
+  pub targets : IsTrue (list_all (among all) (flat_map targets_of (links_in set node)))
+  pub entities : IsTrue (list_all (is_unparsed set) (flat_map entities_of (links_in set node)))
 
 -- no ID of the article repeats, each IDREF has its ID, and each ENTITY names an unparsed entity
 pub record AreLinked (set : Declarations) (node : Node) : Type 0 where
