@@ -3,3 +3,4 @@ pub mod Structure
 pub mod Differing
 pub mod Linking
 pub mod Valid
+pub mod Unbroken
