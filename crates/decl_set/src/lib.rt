@@ -9,26 +9,24 @@
 //! said in `specs/Validity.antt` and `specs/Breaks.antt` over the trees of `document_trees`.
 #![tactic(auto)]
 
-#[cfg(test)]
-mod attribute_tests;
 mod attributes;
 mod breaks;
 mod declaring;
 mod ending;
 mod entity;
 mod faults;
+mod laws;
 mod pieces;
 mod set;
-#[cfg(test)]
-mod set_tests;
 mod spelled;
-mod value_stack;
 #[cfg(test)]
-mod value_tests;
+mod tests;
+mod value_stack;
 mod values;
 
 pub use breaks::{BrokenDecl, Cause, Odd};
 pub use entity::EntityDef;
 pub use faults::{DeclFault, ValueFault};
+pub use laws::breaks_law;
 pub use set::DeclSet;
 pub use values::value_of;
