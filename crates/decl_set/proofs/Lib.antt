@@ -1,5 +1,6 @@
 pub mod AddedAttributes
 pub mod CollapsedTexts
+pub mod CoveredOdd
 pub mod DeclaredLists
 pub mod Found
 pub mod Growing
@@ -9,6 +10,7 @@ pub mod Outcomes
 pub mod PutLists
 pub mod ReadLists
 pub mod Stepping
+pub mod Suiting
 pub mod Turns
 pub mod Reading
 pub mod ValueChars

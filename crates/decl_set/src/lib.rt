@@ -6,7 +6,8 @@
 //! for in `specs/Values.antt`; what a set keeps at every moment in `specs/Asked.antt`.
 //!
 //! When a document meets a set, when one set's documents are all documents of another, and which element tells why not, is
-//! said in `specs/Validity.antt` and `specs/Breaks.antt` over the trees of `document_trees`.
+//! said in `specs/Validity.antt` and `specs/Breaks.antt` over the trees of `document_trees`; what of an element another set
+//! does not allow, whatever names stand in it, in `specs/Oddness.antt`.
 #![tactic(auto)]
 
 mod attributes;
@@ -16,6 +17,7 @@ mod ending;
 mod entity;
 mod faults;
 mod laws;
+mod oddness;
 mod pieces;
 mod set;
 mod spelled;
@@ -28,5 +30,6 @@ pub use breaks::{BrokenDecl, Cause, Odd};
 pub use entity::EntityDef;
 pub use faults::{DeclFault, ValueFault};
 pub use laws::breaks_law;
+pub use oddness::{is_odd, odd};
 pub use set::DeclSet;
 pub use values::value_of;

@@ -1,11 +1,11 @@
-//! Each declaring call and `value_of` with ample memory.
+//! Each declaring call, `odd` and `value_of` with ample memory.
 
 ghost use Rattle.std.specs.Prelude.{◌≡◌, ◌∷◌, [], IfOk, IsTrue};
 ghost use Rattle.std.specs.List.{list_all};
 ghost use Rattle.jats_chars.specs.Classes.{is_char as char};
 ghost use Rattle.decl_set.specs.Asked.{IsRead, are_chars};
 
-use crate::{DeclFault, DeclSet, EntityDef, value_of};
+use crate::{DeclFault, DeclSet, EntityDef, is_odd, odd, value_of};
 use attlist_merge::{RawAttList, parse_attlist};
 use content_models::Content;
 use entity_catalog::Ids;
@@ -33,6 +33,9 @@ fn elements_entities_and_notations_are_declared(rt: HostRuntime) -> Result<(), F
     let answer = declare(rt.alloc(), &mut set);
     assert!(rt; answer.is_ok());
     assert!(rt; set.count() == 1 && set.entity_count() == 1 && set.notation_count() == 1);
+    let name = name(rt.alloc())?;
+    let odd = odd(rt.alloc(), &set, &set, &name)?;
+    assert!(rt; odd.is_none() && !is_odd(&set, &set, &name));
     Ok(())
 }
 
