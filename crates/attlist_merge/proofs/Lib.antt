@@ -3,6 +3,7 @@ pub mod Kept
 pub mod Copies
 pub mod Covering
 pub mod Showing
+pub mod Samples
 pub mod Tokens
 pub mod Sound
 pub mod Complete

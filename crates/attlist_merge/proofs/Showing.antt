@@ -24,7 +24,7 @@ use Rattle.attlist_merge.proofs.Covering.{covers_list}
 
 -- ---- each entry is found under its name
 
-abbrev IsFound : Definitions → Entry → Type 0
+abbrev pub IsFound : Definitions → Entry → Type 0
 IsFound list e = definition_of list e.0 ≡ Some e.1
 
 found_later : (y : Entry) (ys : Definitions) → definition_of ys y.0 ≡ None → (x : Entry) → IsFound ys x → IsFound (y ∷ ys) x
@@ -55,7 +55,7 @@ all_found (y ∷ ys) d =
 -- ---- right by the first
 
 -- where the value that shows it stands, it is in the class
-abbrev IsFit : Definitions → OddAtt → Type 0
+abbrev pub IsFit : Definitions → OddAtt → Type 0
 IsFit first o = (e : Entry) → IsFound first e → (v : List ℕ) → odd_at o e.0 ≡ Some v → in_class e.1.class v ≡ true
 
 allowed_chosen : (first : Definitions) (e : Entry) (o : Option (List ℕ)) → IsFound first e → IsSound e → ((v : List ℕ) → o ≡ Some v → in_class e.1.class v ≡ true) → list_all (is_allowed first) (chosen o e) ≡ true
@@ -68,10 +68,10 @@ allowed_chosen first e None found s fit =
     (λ t. refl)
 
 module _ (o : OddAtt) where
-  abbrev pick : Entry → Values
+  abbrev pub pick : Entry → Values
   pick e = chosen (odd_at o e.0) e
 
-  abbrev picked : Definitions → Values
+  abbrev pub picked : Definitions → Values
   picked es = flat_map pick es
 
   allowed_all : (first es : Definitions) → IsFit first o → AllByRecursion (IsFound first) es → AllByRecursion IsSound es → list_all (is_allowed first) (picked es) ≡ true
@@ -136,13 +136,13 @@ module _ (o : OddAtt) where
       let Q : Bool → Type 0 = λ b. are_apart (cond b ((e.0, sample_of e.1.class) ∷ []) [] ++ rest) ≡ true in
       on_test Q (is_required e.1.preset) (λ t. and_from (not (list_any (λ value. bytes_eq e.0 value.0) rest)) (are_apart rest) (ap not off) h) (λ t. h)
 
-  apart_all : (es : Definitions) → are_distinct es ≡ true → are_apart (picked es) ≡ true
+  pub apart_all : (es : Definitions) → are_distinct es ≡ true → are_apart (picked es) ≡ true
   apart_all [] d = refl
   apart_all (e ∷ es) d =
       let parts = and_parts (is_none (definition_of es e.0)) (are_distinct es) d in
       apart_chosen e (odd_at o e.0) (picked es) (none_named e.0 es (is_none-none (definition_of es e.0) parts.0)) (apart_all es parts.1)
 
-  right_first : (first : Definitions) → IsKept first → IsFit first o → is_right first (picked first) ≡ true
+  pub right_first : (first : Definitions) → IsKept first → IsFit first o → is_right first (picked first) ≡ true
   right_first first kept fit =
       and_from (list_all (is_allowed first) (picked first)) (list_all (is_given (picked first)) first)
       (allowed_all first first fit (all_found first kept.names) kept.definitions) (given_all first)
@@ -245,7 +245,7 @@ missing_parts true true n o h = cc
 missing_parts true false n o h = (refl, refl, let same : Missing n ≡ o = cc in same)
 missing_parts false q n o h = cc
 
-none_fit : (first : Definitions) (n : List ℕ) → IsFit first (Missing n)
+pub none_fit : (first : Definitions) (n : List ℕ) → IsFit first (Missing n)
 none_fit first n e found v h = cc
 
 told_missing : (first second es : Definitions) (o : OddAtt) → IsKept first → first_some (odd_missing first) es ≡ Some o → IsTrue (is_right first (shown_by o first)) × (list_all (is_given (shown_by o first)) es ≡ false) × IsTrue (are_apart (shown_by o first))

@@ -20,12 +20,14 @@ mod list_tests;
 mod odd;
 mod parse;
 mod raw;
+mod sample_laws;
 #[cfg(test)]
 mod tests;
 mod value;
 
 pub use laws::attlist_law;
 pub use list::{Att, AttFault, AttList, Definition};
-pub use odd::{OddAtt, lists_cover, odd_att};
+pub use odd::{OddAtt, attributes_cover, lists_cover, odd_att, odd_attribute};
 pub use parse::{ListFault, parse_attlist};
 pub use raw::{RawAtt, RawAttList, RawAtts, RawPreset};
+pub use sample_laws::{required_law, shown_law};

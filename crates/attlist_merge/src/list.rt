@@ -10,6 +10,7 @@ use indexmap::IndexMap;
 use jats_chars::{Name, NoMemory, Text};
 use std::alloc::Global;
 use std::marker::Model;
+use thiserror::Error;
 
 /// An attribute to be added to a list.
 #[derive(Debug, Drop)]
@@ -28,19 +29,25 @@ pub struct Definition {
 }
 
 /// Why an attribute is not added. The faults are tested in this order.
-#[derive(Debug, Drop)]
+#[derive(Debug, Drop, Error)]
 pub enum AttFault {
     /// This token stands twice in the type (XML 1.0, No Duplicate Tokens).
+    #[error("a token stands twice in a type")]
     DuplicateToken(Text),
     /// An ID has a value (ID Attribute Default).
+    #[error("an ID with a value")]
     IdPreset,
     /// The value is outside the class of the type (Attribute Default Value Syntactically Correct).
+    #[error("a value outside the class of its type")]
     PresetNotInClass,
     /// The list has an ID already (One ID per Element Type).
+    #[error("a second ID")]
     SecondId,
     /// The list has a NOTATION already (One Notation Per Element Type).
+    #[error("a second NOTATION")]
     SecondNotation,
     /// Memory ran out.
+    #[error("out of memory")]
     NoMemory,
 }
 

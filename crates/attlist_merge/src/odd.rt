@@ -1,9 +1,11 @@
 //! One list of attributes against another.
 
-ghost use Rattle.std.specs.Prelude.{◌≡◌, ◌&&◌, not, is_none, option_and_then, slice_get, IfOk, IsTrue, ◌↔◌};
+ghost use Rattle.std.specs.Prelude.{◌≡◌, ◌&&◌, not, is_none, [], length, option_and_then, slice_get, IfOk, IsTrue, ◌↔◌};
+ghost use Rattle.std.specs.Option.{option_copied};
 ghost use Rattle.attlist_merge.specs.Values.{CoversList};
-ghost use Rattle.attlist_merge.specs.Lists.{IsSound, is_required as is_needed};
+ghost use Rattle.attlist_merge.specs.Lists.{IsKept, IsSound, is_required as is_needed};
 ghost use Rattle.attlist_merge.specs.Oddness as spec;
+ghost use Rattle.attlist_merge.specs.Shown.{attributes};
 
 use crate::check::is_required;
 use crate::{AttList, Definition};
@@ -217,9 +219,90 @@ pub fn odd_att(alloc: Global, first: &AttList, second: &AttList) -> Result<Optio
 
 /// Whether every list of values that is right by the first list is right by the second. Takes no memory.
 pub fn lists_cover(first: &AttList, second: &AttList) -> bool
-    ensures { IsTrue result ↔ CoversList first.now second.now }
+    ensures value { result ≡ is_none (spec.odd_of first.now second.now) }
+    ensures covers { IsTrue result ↔ CoversList first.now second.now }
 {
     let _ = first.len();
     let _ = second.len();
     are_alike(first, second)
+}
+
+// ---- elements that may have no list
+
+/// How many attributes an element has: none where it has no list.
+fn count(list: Option<&AttList>) -> usize
+    ensures value { result ≡ length (attributes (option_copied list.entry)) }
+    ensures kept { IsKept (attributes (option_copied list.entry)) }
+{
+    match list {
+        None => 0,
+        Some(list) => list.len(),
+    }
+}
+
+fn is_required_at(list: &AttList, at: usize) -> bool
+    ensures { result ≡ not (is_none (option_and_then (spec.odd_missing []) (slice_get list.now at))) }
+{
+    match list.get(at) {
+        None => false,
+        Some((_, definition)) => is_required(&definition.preset),
+    }
+}
+
+fn requires_none(list: &AttList) -> bool
+    ensures { result ≡ is_none (spec.first_some (spec.odd_missing []) list.now) }
+{
+    for at in 0..list.len() {
+        if is_required_at(list, at) {
+            return false;
+        }
+    }
+    true
+}
+
+fn are_alike_in(first: Option<&AttList>, second: Option<&AttList>) -> bool
+    ensures { result ≡ is_none (spec.odd_of (attributes (option_copied first.entry)) (attributes (option_copied second.entry))) }
+{
+    match second {
+        None => count(first) == 0,
+        Some(second) => match first {
+            None => requires_none(second),
+            Some(first) => are_alike(first, second),
+        },
+    }
+}
+
+/// Whether every list of values that is right for an element in one set is right for it in another, from its lists of
+/// attributes there: None where it has none. Takes no memory.
+pub fn attributes_cover(first: Option<&AttList>, second: Option<&AttList>) -> bool
+    ensures value { result ≡ is_none (spec.odd_of (attributes (option_copied first.entry)) (attributes (option_copied second.entry))) }
+    ensures covers { IsTrue result ↔ CoversList (attributes (option_copied first.entry)) (attributes (option_copied second.entry)) }
+{
+    let _ = count(first);
+    let _ = count(second);
+    are_alike_in(first, second)
+}
+
+fn or_none<'a>(list: Option<&'a AttList>, none: &'a AttList) -> &'a AttList
+    requires { none.now ≡ [] }
+    ensures { result.now ≡ attributes (option_copied list.entry) }
+{
+    match list {
+        None => none,
+        Some(list) => list,
+    }
+}
+
+/// What `odd_att` answers for an element, from its lists of attributes in two sets: None where it has none.
+pub fn odd_attribute(
+    alloc: Global,
+    first: Option<&AttList>,
+    second: Option<&AttList>,
+) -> Result<Option<OddAtt>, NoMemory>
+    ensures value { IfOk result (λ o. o ≡ spec.odd_of (attributes (option_copied first.entry)) (attributes (option_copied second.entry))) }
+    ensures told { IfOk result (λ o. spec.Tells (attributes (option_copied first.entry)) (attributes (option_copied second.entry)) o) }
+    ensures none { IfOk result (λ o. IsTrue (is_none o) ↔ CoversList (attributes (option_copied first.entry)) (attributes (option_copied second.entry))) }
+{
+    let none = AttList::new(alloc);
+    odd_att(alloc, or_none(first, &none), or_none(second, &none))
 }

@@ -1,16 +1,10 @@
 -- What adding attributes gives.
-use Rattle.std.proofs.Common.{◌≡◌, ◌∙◌, ◌⊎◌, inl, inr, ℕ, suc, ◌+◌, ◌<◌, length, get_or, drop, drop-cons, add-one, Bool, true, false, cond, ◌&&◌, ◌||◌, List, [], ◌∷◌, ◌++◌, refl, sym, ap, subst, Option, Some, None, Ok, Err, is_some, bytes_eq, IsTrue}
+use Rattle.std.proofs.Common.{◌≡◌, ◌∙◌, ◌⊎◌, inl, inr, ℕ, suc, ◌+◌, ◌<◌, length, get_or, drop, drop-cons, add-one, Bool, true, false, cond, ◌||◌, List, [], ◌∷◌, ◌++◌, refl, sym, ap, subst, Option, Some, None, Ok, Err, is_some, IsTrue}
 use Rattle.std.specs.Prelude.{Result}
-use Rattle.std.specs.List.{list_all, AllByRecursion}
-use Rattle.std.specs.Option.{option_map_or}
-use Rattle.std.proofs.lemmas.Bool.{and_parts, and_from}
 use Rattle.std.proofs.lemmas.List.{append_assoc, append-nil}
-use Rattle.jats_chars.specs.Names.{is_name}
 use Rattle.attribute_types.specs.declared.types.AttType.{AttType}
 use Rattle.attribute_types.specs.declared.types.Preset.{Preset}
 use Rattle.attribute_types.specs.declared.types.Preset.TheVariants as preset
-use Rattle.attribute_types.specs.declared.classes.ValueClass.{ValueClass}
-use Rattle.attribute_types.proofs.TextTests.{on_test}
 use Rattle.attlist_merge.specs.declared.list.Att.{Att}
 use Rattle.attlist_merge.specs.declared.list.Definition.{Definition}
 use Rattle.attlist_merge.specs.declared.list.AttFault.{AttFault}
@@ -18,7 +12,7 @@ use Rattle.attlist_merge.specs.declared.list.AttFault.TheVariants as att
 use Rattle.attlist_merge.specs.declared.raw.RawPreset.{RawPreset}
 use Rattle.attlist_merge.specs.declared.raw.RawPreset.TheVariants as raw
 use Rattle.attlist_merge.specs.declared.raw.RawAtt.{RawAtt}
-use Rattle.attlist_merge.specs.Lists.{Definitions, definition_of, is_cdata, is_settled, value_in}
+use Rattle.attlist_merge.specs.Lists.{Definitions, definition_of, is_cdata, is_settled}
 use Rattle.attlist_merge.specs.Adding.{IsReady, Adds, defined, fault_of}
 use Rattle.pe_expansion.specs.Expansion.{Written}
 use Rattle.dtd_scanner.specs.Walk.{◌>>=◌}

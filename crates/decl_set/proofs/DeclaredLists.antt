@@ -1,5 +1,5 @@
 -- What a set keeps where attributes are declared.
-use Rattle.std.proofs.Common.{◌≡◌, ◌∙◌, inl, inr, ℕ, Bool, true, false, cond, ◌&&◌, List, [], ◌∷◌, ◌++◌, length, refl, sym, ap, subst, Option, Some, None, Ok, Err, is_some, unwrap_or, bytes_eq, IsTrue, arith}
+use Rattle.std.proofs.Common.{◌≡◌, ◌∙◌, inl, inr, ℕ, Bool, true, cond, List, [], ◌∷◌, ◌++◌, length, refl, sym, ap, subst, Some, Ok, Err, is_some, unwrap_or, bytes_eq, arith}
 use Rattle.std.specs.Prelude.{Result}
 use Rattle.std.specs.List.{list_all, AllByRecursion}
 use Rattle.std.specs.Map.{lookup}

@@ -1,12 +1,17 @@
 pub mod AddedAttributes
 pub mod CollapsedTexts
+pub mod CoveredOdd
 pub mod DeclaredLists
+pub mod Found
 pub mod Growing
 pub mod Judging
 pub mod Kept
 pub mod Outcomes
 pub mod PutLists
 pub mod ReadLists
+pub mod Stepping
+pub mod Suiting
+pub mod Turns
 pub mod Reading
 pub mod ValueChars
 pub mod ValueDecimals

@@ -1,5 +1,5 @@
 -- Lists of attributes that are put in their places.
-use Rattle.std.proofs.Common.{◌≡◌, ◌∙◌, ℕ, Bool, true, false, cond, List, [], ◌∷◌, refl, sym, ap, Some, Ok, Err, unwrap_or, bytes_eq}
+use Rattle.std.proofs.Common.{◌≡◌, ◌∙◌, ℕ, Bool, cond, List, [], ◌∷◌, refl, sym, ap, Some, Ok, Err, unwrap_or, bytes_eq}
 use Rattle.std.specs.Prelude.{Option, Result}
 use Rattle.std.specs.Map.{lookup, set_value}
 use Rattle.std.proofs.lemmas.Map.Steps.{set_value_same}

@@ -1,5 +1,5 @@
 -- What reading gives of a declaration of attributes.
-use Rattle.std.proofs.Common.{◌≡◌, ◌∙◌, ℕ, Bool, true, ◌&&◌, List, [], ◌∷◌, ◌++◌, refl, sym, ap, codes, IsTrue}
+use Rattle.std.proofs.Common.{◌≡◌, ◌∙◌, ℕ, true, ◌&&◌, List, [], ◌∷◌, ◌++◌, refl, sym, ap, codes, IsTrue}
 use Rattle.std.specs.List.{list_all, AllByRecursion}
 use Rattle.std.specs.Option.{option_map_or}
 use Rattle.std.proofs.lemmas.Bool.{and_parts, and_from}
@@ -15,7 +15,7 @@ use Rattle.attlist_merge.specs.declared.raw.RawPreset.{RawPreset}
 use Rattle.attlist_merge.specs.declared.raw.RawPreset.TheVariants as preset
 use Rattle.attlist_merge.specs.declared.raw.RawAtt.{RawAtt}
 use Rattle.attlist_merge.specs.declared.raw.RawAttList.{RawAttList}
-use Rattle.attlist_merge.specs.Grammar.{AreTokens, IsGroup, IsType, IsQuoted, IsPreset, IsDefinition, AreDefinitions}
+use Rattle.attlist_merge.specs.Grammar.{AreTokens, IsType, IsQuoted, IsPreset, IsDefinition, AreDefinitions}
 use Rattle.attlist_merge.proofs.Sound.{attlist_sound}
 use Rattle.decl_set.specs.Asked.{are_chars, IsRead}
 use Rattle.decl_set.specs.AttributeSteps.{IsWellRead, written_in}

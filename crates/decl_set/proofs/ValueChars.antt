@@ -1,5 +1,5 @@
 -- What is written stays of Chars.
-use Rattle.std.proofs.Common.{◌∙◌, length, ℕ, zero, suc, ◌+◌, ◌-◌, List, [], ◌∷◌, ◌++◌, drop, take, Bool, refl, Option, Some, None, IfSome, option_map, IfOk, ◌&&◌, bytes_eq, codes, eqb}
+use Rattle.std.proofs.Common.{◌∙◌, length, ℕ, zero, suc, ◌+◌, List, [], ◌∷◌, ◌++◌, drop, take, Bool, refl, Option, Some, None, IfSome, option_map, IfOk, ◌&&◌, bytes_eq, codes, eqb}
 use Rattle.std.specs.Prelude.{IsTrue, nat_lt, nat_eq}
 use Rattle.std.specs.List.{list_all, prefix_len, starts_with}
 use Rattle.std.specs.Map.{lookup}

@@ -1,5 +1,5 @@
 -- Characters as they are written in values.
-use Rattle.std.proofs.Common.{◌≡◌, ◌∙◌, ℕ, ◌+◌, ◌-◌, ◌^◌, ◌<◌, ◌≤◌, List, [], ◌∷◌, ◌++◌, length, Bool, true, false, cond, not, refl, ap, arith, append_assoc, length-append, Option, Some, option_map, ◌&&◌, ◌||◌, codes, eqb, ⊎_elim}
+use Rattle.std.proofs.Common.{◌≡◌, ◌∙◌, ℕ, ◌+◌, ◌^◌, ◌<◌, ◌≤◌, List, [], ◌∷◌, ◌++◌, length, Bool, true, false, cond, not, refl, ap, arith, append_assoc, length-append, Option, Some, option_map, ◌&&◌, ◌||◌, codes, eqb, ⊎_elim}
 use Rattle.std.specs.Prelude.{IsTrue, nat_lt, nat_le, nat_eq}
 use Rattle.std.specs.List.{list_all, list_any, prefix_len, starts_with}
 use Rattle.std.specs.Fmt.{decimal}

@@ -1,5 +1,5 @@
 -- The count of included characters never falls.
-use Rattle.std.proofs.Common.{◌≡◌, ◌≤◌, length, ℕ, zero, suc, ◌+◌, ◌-◌, List, [], ◌∷◌, ◌++◌, Option, Some, None, IfOk, Result, Ok, Err, refl, arith}
+use Rattle.std.proofs.Common.{◌≡◌, ◌≤◌, length, ℕ, zero, suc, ◌+◌, ◌-◌, List, [], ◌∷◌, ◌++◌, Option, Some, None, IfOk, Result, Ok, Err, arith}
 use Rattle.std.specs.Prelude.{nat_lt, is_some}
 use Rattle.std.specs.Map.{lookup}
 use Rattle.std.specs.Prelude.{bytes_eq}
@@ -19,11 +19,10 @@ use Rattle.pe_expansion.specs.Expansion.{Written}
 use Rattle.pe_expansion.specs.Opening.{is_open}
 use Rattle.dtd_scanner.specs.References.{named}
 use Rattle.decl_set.specs.Declarations.{Declarations, Entity, attributes_in}
-use Rattle.decl_set.specs.Declaring.{read_as, preset_of, added, with_attribute, with_all, attributes_given, with_attributes, kept_list}
+use Rattle.decl_set.specs.Declaring.{read_as, preset_of, added, with_attribute, with_all, attributes_given, with_attributes}
 use Rattle.decl_set.specs.Values.{Valuing, by_name, by_kind, by_piece, entity_opened, opening, predefined, value_piece, value_step, valued, value_of}
 use Rattle.decl_set.specs.declared.entity.EntityDef.{EntityDef}
 use Rattle.decl_set.specs.declared.entity.EntityDef.TheVariants.{Internal, External, Unparsed}
-use Rattle.decl_set.specs.declared.faults.DeclFault.{DeclFault}
 use Rattle.decl_set.specs.declared.faults.ValueFault.{ValueFault}
 use Rattle.decl_set.specs.declared.pieces.Kind.{Kind}
 use Rattle.decl_set.specs.declared.pieces.Kind.TheVariants.{Char, LessThan, Named}

@@ -1,5 +1,5 @@
 -- What the declaring calls ask for, and what a set keeps at every moment.
-use Rattle.std.specs.Prelude.{◌≡◌, ◌≤◌, ◌==◌, ℕ, Bool, true, false, not, ◌&&◌, ◌||◌, List, [], ◌∷◌, length, IsTrue, Option, Some, None, bytes_eq}
+use Rattle.std.specs.Prelude.{◌≡◌, ◌≤◌, ◌==◌, ℕ, Bool, true, false, not, ◌&&◌, List, [], ◌∷◌, length, IsTrue, Option, Some, None, bytes_eq}
 use Rattle.std.specs.List.{list_all, list_any, AllByRecursion}
 use Rattle.jats_chars.specs.Classes.{is_char, is_pubid_char}
 use Rattle.jats_chars.specs.Names.{is_name}

@@ -1,5 +1,4 @@
 use Rattle.std.specs.Prelude.{ℕ, List, map}
-use Rattle.content_models.specs.declared.content.Content.{Content}
 use Rattle.decl_set.specs.Declarations.{Declarations, Element}
 use Rattle.decl_set.specs.declared.set.Declared.{Declared}
 use Rattle.decl_set.specs.declared.set.DeclSet.TheInside.{Inside}

@@ -6,7 +6,6 @@ use Rattle.content_models.specs.declared.content.Content.TheVariants.{Empty}
 use Rattle.position_automata.specs.Judged.{judged}
 use Rattle.attribute_types.specs.Spacing.{collapsed}
 use Rattle.attribute_types.specs.declared.types.AttType.{AttType}
-use Rattle.attribute_types.specs.declared.types.AttType.TheVariants as kind
 use Rattle.attribute_types.specs.declared.types.Preset.{Preset}
 use Rattle.attribute_types.specs.declared.types.Preset.TheVariants as preset
 use Rattle.attlist_merge.specs.declared.raw.RawPreset.{RawPreset}
@@ -22,7 +21,7 @@ use Rattle.attlist_merge.specs.Oddness.{first_some}
 use Rattle.entity_catalog.specs.declared.ids.Ids.{Ids}
 use Rattle.dtd_scanner.specs.Walk.{◌>>=◌}
 use Rattle.pe_expansion.specs.Expansion.{Written}
-use Rattle.decl_set.specs.Declarations.{Declarations, AttributesOf, Entity, Notation, content_in, attributes_in, entity_in, notation_in, follows_in}
+use Rattle.decl_set.specs.Declarations.{Declarations, AttributesOf, Entity, content_in, attributes_in, entity_in, notation_in, follows_in}
 use Rattle.decl_set.specs.Values.{value_of}
 use Rattle.decl_set.specs.declared.entity.EntityDef.{EntityDef}
 use Rattle.decl_set.specs.declared.entity.EntityDef.TheVariants.{Internal, External, Unparsed}

@@ -11,5 +11,6 @@ pub mod Steps
 pub mod Validity
 pub mod Oddness
 pub mod Breaks
+pub mod Laws
 pub mod AttributeSteps
 pub mod Judgements

@@ -6,29 +6,30 @@
 //! for in `specs/Values.antt`; what a set keeps at every moment in `specs/Asked.antt`.
 //!
 //! When a document meets a set, when one set's documents are all documents of another, and which element tells why not, is
-//! said in `specs/Validity.antt` and `specs/Breaks.antt` over the trees of `document_trees`.
+//! said in `specs/Validity.antt` and `specs/Breaks.antt` over the trees of `document_trees`; what of an element another set
+//! does not allow, whatever names stand in it, in `specs/Oddness.antt`.
 #![tactic(auto)]
 
-#[cfg(test)]
-mod attribute_tests;
 mod attributes;
 mod breaks;
 mod declaring;
 mod ending;
 mod entity;
 mod faults;
+mod laws;
+mod oddness;
 mod pieces;
 mod set;
-#[cfg(test)]
-mod set_tests;
 mod spelled;
-mod value_stack;
 #[cfg(test)]
-mod value_tests;
+mod tests;
+mod value_stack;
 mod values;
 
 pub use breaks::{BrokenDecl, Cause, Odd};
 pub use entity::EntityDef;
 pub use faults::{DeclFault, ValueFault};
+pub use laws::breaks_law;
+pub use oddness::{is_odd, odd};
 pub use set::DeclSet;
 pub use values::value_of;

@@ -5,7 +5,7 @@ ghost use Rattle.std.specs.Option.{option_copied};
 ghost use Rattle.position_automata.specs.Automata.{states};
 ghost use Rattle.decl_set.specs.Asked.{IsKept};
 ghost use Rattle.decl_set.specs.Declarations.{none_declared, content_in, list_in, entity_in, name_of};
-ghost use Rattle.decl_set.specs.Steps.{TellsStepAt, TellsWithin, any_step};
+ghost use Rattle.decl_set.specs.Steps.{TellsStepAt, TellsWithin, any_step, steps_at};
 
 use crate::EntityDef;
 use attlist_merge::AttList;
@@ -156,7 +156,9 @@ impl DeclSet {
     /// The k-th step, counted from 0, of a state of the element at a place: those of its automaton; at ANY one on each
     /// element of the set, in order, to state 0. None exactly where there is no such element, state or step.
     pub fn step_at(&self, e: usize, state: u32, k: usize) -> Option<(&Name, u32)>
-        ensures { TellsStepAt self.now (slice_get self.now.elements e) state k (option_map {U = List ℕ × ℕ} (λ s. (s.0.now, s.1)) result) }
+        ensures told { TellsStepAt self.now (slice_get self.now.elements e) state k (option_map {U = List ℕ × ℕ} (λ s. (s.0.now, s.1)) result) }
+        ensures value { option_map {U = List ℕ × ℕ} (λ s. (s.0.now, s.1)) result ≡ slice_get (steps_at self.now (slice_get self.now.elements e) state) k }
+        ensures kept { IsKept self.now }
     {
         match self.elements.get_index(e) {
             None => None,
@@ -165,6 +167,30 @@ impl DeclSet {
                 _ => step_within(&declared.automaton, state, k),
             },
         }
+    }
+
+    /// How many lists of attributes are declared. That a set keeps its constraints is known by this call, as by `count`.
+    pub fn list_count(&self) -> usize
+        ensures value { result ≡ length self.now.lists }
+        ensures kept { IsKept self.now }
+    {
+        self.lists.len()
+    }
+
+    /// How many general entities are declared.
+    pub fn entity_count(&self) -> usize
+        ensures value { result ≡ length self.now.entities }
+        ensures kept { IsKept self.now }
+    {
+        self.entities.len()
+    }
+
+    /// How many notations are declared.
+    pub fn notation_count(&self) -> usize
+        ensures value { result ≡ length self.now.notations }
+        ensures kept { IsKept self.now }
+    {
+        self.notations.len()
     }
 
     /// The element and the attributes of the k-th list, counted from 0 in order of declaration, or None exactly where

@@ -19,7 +19,7 @@ use Rattle.position_automata.specs.Judged.{name_at, positions_after}
 use Rattle.position_automata.specs.Marked.{count, Follows, AcceptsAt, numbered}
 use Rattle.position_automata.specs.Places.{nullable, lasts, letters, pairs}
 use Rattle.position_automata.specs.Rows.{targets}
-use Rattle.position_automata.specs.Stepping.{does_accept, steps_of, step_on, TellsSteps, AcceptsByTest, StepsAreTold, StepsFollow, OneStepOn, AreWithin, FewSteps}
+use Rattle.position_automata.specs.Stepping.{does_accept, steps_of, step_on, TellsSteps, AcceptsByTest, StepsAreTold, StepsFollow, StepOnFollows, OneStepOn, StepsAgree, AreWithin, FewSteps}
 use Rattle.position_automata.proofs.Exchange.{holds-range}
 use Rattle.position_automata.proofs.Judging.{after_to, after_from, follows_of_step, step_of_follows, steps_are}
 use Rattle.position_automata.proofs.Lists.{nullable-to, nullable-from, lasts-to, lasts-from}
@@ -216,8 +216,18 @@ on_from a i k name d f = by (step_on a i name) refl
     by None q = absurd (on_none a i k name q f)
     by (Some l) q = q ∙ ap (λ x. Some x) ((one_state_follows a).0 d i l k name (on_to a i l name q) f)
 
+pub step_on_follows : StepOnFollows
+step_on_follows a i name = by (step_on a i name) refl
+  where
+    by : (o : Option ℕ) → step_on a i name ≡ o → IsStep a i name o
+    by None q = λ j f. on_none a i j name q f
+    by (Some j) q = on_to a i j name q
+
 pub one_step_on : OneStepOn
 one_step_on a i j name d = (on_to a i j name, on_from a i j name d)
+
+pub steps_agree : StepsAgree
+steps_agree a i j name t d = ((λ h. told_of a i j name t (on_to a i j name h)), (λ c. on_from a i j name d (follows_of a i j name c)))
 
 -- ---- few steps
 

@@ -6,7 +6,7 @@ use Rattle.content_models.specs.declared.content.Content.TheVariants.{Empty, Any
 use Rattle.content_models.specs.Model.{Chars, model, among}
 use Rattle.content_models.specs.Proper.{IsProper}
 use Rattle.content_models.specs.Re.{Re}
-use Rattle.position_automata.specs.Automata.{states, IsDeterministic, FollowsOn, Accepts, IsSteps}
+use Rattle.position_automata.specs.Automata.{states, IsDeterministic, FollowsOn, Accepts, IsStep, IsSteps}
 use Rattle.position_automata.specs.Judged.{name_at, positions_after}
 use Rattle.position_automata.specs.Places.{nullable, lasts, letters}
 
@@ -53,9 +53,19 @@ StepsAreTold = (content : Content) (i : ℕ) (steps : List (Chars × ℕ)) → i
 abbrev pub StepsFollow : Type 0
 StepsFollow = (content : Content) (i j : ℕ) (name : Chars) → TellsSteps content → Contains (steps_of content i) (name, j) ↔ FollowsOn content i name j
 
--- one step follows on a name where the content is deterministic
+-- the step on a name is one that follows, and None where none does
+abbrev pub StepOnFollows : Type 0
+StepOnFollows = (content : Content) (i : ℕ) (name : Chars) → IsStep content i name (step_on content i name)
+
+-- it is the one that follows where the content is deterministic
 abbrev pub OneStepOn : Type 0
 OneStepOn = (content : Content) (i j : ℕ) (name : Chars) → IsDeterministic content → (step_on content i name ≡ Some j) ↔ FollowsOn content i name j
+
+-- and the one on this name among the steps, but at ANY
+abbrev pub StepsAgree : Type 0
+StepsAgree =
+    (content : Content) (i j : ℕ) (name : Chars) → TellsSteps content → IsDeterministic content
+    → (step_on content i name ≡ Some j) ↔ Contains (steps_of content i) (name, j)
 
 -- what accepts, and where a step begins and ends, is a state
 pub record AreWithin (content : Content) : Type 0 where

@@ -48,16 +48,6 @@ impl Model for Automaton {
     ghost invariant = { λ a. IsTable a.content a.letters a.names.keys a.rows a.accepting.items };
 }
 
-fn copy_names(alloc: Global, names: &[Name]) -> Result<NameList, NoMemory>
-    ensures { IfOk result (λ copied. copied ≡ names.now) }
-{
-    let mut copied = NameList::new(alloc);
-    for name in names {
-        copied.push(name.copy(alloc)?)?;
-    }
-    Ok(copied)
-}
-
 fn build_simple(alloc: Global, content: &Content, letters: NameList) -> Result<Automaton, NoMemory>
     requires proper { IsProper content.now }
     requires simple { IsSimple content.now }
@@ -113,7 +103,7 @@ pub fn build(alloc: Global, content: &Content) -> Result<Automaton, BuildFault>
     match content {
         Content::Children(part) => build_model(alloc, content, part),
         Content::Mixed(listed) => {
-            let letters = copy_names(alloc, listed.as_slice())?;
+            let letters = listed.copy(alloc)?;
             Ok(build_simple(alloc, content, letters)?)
         }
         Content::Empty | Content::Any => Ok(build_simple(alloc, content, NameList::new(alloc))?),

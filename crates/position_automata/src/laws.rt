@@ -6,7 +6,7 @@ ghost use Rattle.position_automata.specs.Automata.{IsFollows};
 ghost use Rattle.position_automata.specs.Judged.{Judges, judged};
 ghost use Rattle.position_automata.specs.Laws.{DerivesByStates, LeadsByWays, OneStateFollows};
 ghost use Rattle.position_automata.specs.Runs.{DerivesByRuns};
-ghost use Rattle.position_automata.specs.Stepping.{AcceptsByTest, StepsAreTold, StepsFollow, OneStepOn, AreWithin, FewSteps};
+ghost use Rattle.position_automata.specs.Stepping.{AcceptsByTest, StepsAreTold, StepsFollow, StepOnFollows, OneStepOn, StepsAgree, AreWithin, FewSteps};
 ghost use Rattle.position_automata.specs.Tables.{Builds};
 ghost use Rattle.position_automata.specs.declared.fault.BuildFault.TheVariants.{Ambiguous};
 
@@ -24,14 +24,17 @@ pub fn runs_law()
     ensures { DerivesByRuns }
 {}
 
-/// What the functions of `Stepping` say: the test of acceptance is exact; the steps of a state are those that follow, and
-/// no other list is its steps; where a content is deterministic the step on a name is the one that follows; what accepts
-/// and where a step begins and ends is a state; and a state of a proper content has at most 1,024 steps.
+/// What acceptance and steps as functions say. The test of acceptance is exact. The steps of a state are those that
+/// follow, and no other list is its steps. The step on a name is one that follows, or None where none does; where a content
+/// is deterministic it is the only one, and so the one among the steps. What accepts and where a step begins and ends is a
+/// state. A state of a proper content has at most 1,024 steps.
 pub fn steps_law()
     ensures accepts { AcceptsByTest }
     ensures told { StepsAreTold }
     ensures follow { StepsFollow }
+    ensures on { StepOnFollows }
     ensures one { OneStepOn }
+    ensures agree { StepsAgree }
     ensures within { (content : Content) → AreWithin content }
     ensures few { FewSteps }
 {}

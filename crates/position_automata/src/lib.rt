@@ -4,7 +4,7 @@
 //! names. State 0 is the start, and state i stands at the name numbered i. Which states follow on a name, which accept,
 //! and when a content is deterministic are said by `specs/Automata.antt` of the marked words alone; EMPTY, mixed content
 //! and ANY have state 0 alone. `states_law` says that a content derives the lists of names that lead to a state that
-//! accepts.
+//! accepts, `runs_law` that it does so step by step. `specs/Stepping.antt` has acceptance and steps as functions.
 //!
 //! `build` gives an `Automaton` exactly where a content is deterministic. A contract sees the automaton as its content,
 //! so that `step`, `step_of`, `follows`, `accepts_at` and `run` speak of the definitions directly. Inside, a walk over

@@ -1,13 +1,14 @@
 -- Fronts of texts: white space, words and what stops them.
-use Rattle.std.proofs.Common.{◌≡◌, List, [], ◌∷◌, ◌++◌, ℕ, suc, ◌+◌, ◌≤◌, ◌<◌, length, length-append, take, drop, refl, sym, ap, ◌∙◌, subst, arith, Bool, true, false, true≢false, ◌⊎◌, inl, inr, bytes_eq, Option, Some, None}
+use Rattle.std.proofs.Common.{◌≡◌, List, [], ◌∷◌, ◌++◌, ℕ, suc, ◌+◌, ◌<◌, length, length-append, take, drop, refl, sym, ap, ◌∙◌, subst, arith, Bool, true, false, true≢false, ◌⊎◌, inl, inr, bytes_eq, Option, Some, None}
 use Rattle.std.specs.Prelude.{◌||◌, ◌&&◌, not, nat_le, nat_lt, position, if◌then◌else◌, option_and_then, option_map}
 use Rattle.std.specs.List.{list_all, prefix_len}
 use Rattle.std.proofs.lemmas.List.{take-append-drop}
 use Rattle.std.proofs.lemmas.Slice.Eq.{bytes_eq-Decides}
-use Rattle.std.proofs.lemmas.Bool.{leb-true, ltb-true, lt-ltb}
+use Rattle.std.proofs.lemmas.Bool.{ltb-true, lt-ltb}
 use Rattle.std.proofs.lemmas.Bool.Decides.{eqb_tells}
 use Rattle.jats_chars.specs.Classes.{is_space, is_name_start, is_name_char, in_rows, name_more_rows}
 use Rattle.jats_chars.specs.Names.{is_name, is_nmtoken}
+use Rattle.jats_chars.proofs.Rows.{row_bounds}
 use Rattle.text_fronts.specs.Fronts.{skipped, word, after_word}
 
 pub and-left : (a b : Bool) → (a && b) ≡ true → a ≡ true
@@ -58,21 +59,18 @@ choose P false x y z e f g = g refl e
 
 -- ---- characters
 
-in-row : (l c h : ℕ) → (nat_le l c && nat_le c h) ≡ true → (l ≤ c) × (c ≤ h)
-in-row l c h e = (leb-true l c (and-left (nat_le l c) (nat_le c h) e), leb-true c h (and-right (nat_le l c) (nat_le c h) e))
-
 -- white space is one of four characters
 space_is : (P : ℕ → Type 0) → P 9 → P 10 → P 13 → P 32 → (c : ℕ) → is_space c ≡ true → P c
 unfolding is_space
 space_is P p9 p10 p13 p32 c h = elim (or-cases (nat_le 9 c && nat_le c 10) _ h) [
-  | inl a ↦ (let r = in-row 9 c 10 a in elim (eqb_tells c 9) [
+  | inl a ↦ (let r = row_bounds c 9 10 a in elim (eqb_tells c 9) [
     | inl q ↦ subst P (sym q.1) p9
     | inr q ↦ (let e : c ≡ 10 = omega (arith, r.0, r.1, q.1) in subst P (sym e) p10)
   ])
   | inr a ↦ elim (or-cases (nat_le 13 c && nat_le c 13) _ a) [
-    | inl b ↦ (let r = in-row 13 c 13 b in let e : c ≡ 13 = omega (arith, r.0, r.1) in subst P (sym e) p13)
+    | inl b ↦ (let r = row_bounds c 13 13 b in let e : c ≡ 13 = omega (arith, r.0, r.1) in subst P (sym e) p13)
     | inr b ↦ elim (or-cases (nat_le 32 c && nat_le c 32) _ b) [
-      | inl d ↦ (let r = in-row 32 c 32 d in let e : c ≡ 32 = omega (arith, r.0, r.1) in subst P (sym e) p32)
+      | inl d ↦ (let r = row_bounds c 32 32 d in let e : c ≡ 32 = omega (arith, r.0, r.1) in subst P (sym e) p32)
       | inr d ↦ absurd (true≢false (sym d))
     ]
   ]

@@ -1,0 +1,25 @@
+//! Laws of the definitions.
+
+ghost use Rattle.article_validator.specs.Laws.{DerivedByStates, ValidWithoutFaults, NoneBroken, FilledValid, FilledOnce};
+
+/// Going through the states of a deterministic content tells what it derives.
+pub fn deriving_law()
+    ensures { DerivedByStates }
+{}
+
+/// Nothing is wrong exactly where the document is valid from the root, no ID repeats, each IDREF has its ID and each ENTITY
+/// names an unparsed entity.
+pub fn validity_law()
+    ensures { ValidWithoutFaults }
+{}
+
+/// No node is broken exactly where every node meets its declaration.
+pub fn first_law()
+    ensures { NoneBroken }
+{}
+
+/// With its defaults a valid document is valid, and filling again changes nothing.
+pub fn filling_law()
+    ensures valid { FilledValid }
+    ensures once { FilledOnce }
+{}
