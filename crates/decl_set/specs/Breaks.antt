@@ -4,6 +4,7 @@ use Rattle.std.specs.List.{AllByRecursion}
 use Rattle.content_models.specs.declared.content.Content.{Content}
 use Rattle.content_models.specs.Model.{Derives}
 use Rattle.attlist_merge.specs.Lists.{Definitions}
+use Rattle.attlist_merge.specs.Oddness.{odd_of}
 use Rattle.attlist_merge.specs.declared.odd.OddAtt.{OddAtt}
 use Rattle.attlist_merge.specs.declared.odd.OddAtt.TheVariants as att
 use Rattle.decl_set.specs.Declarations.{Declarations, Element, content_in, attributes_in}
@@ -29,6 +30,10 @@ abbrev pub odd_name : OddAtt → List ℕ
 odd_name (att.Undeclared name value) = name
 odd_name (att.Value name value) = name
 odd_name (att.Missing name) = name
+
+-- this is the first attribute by which the one list allows what the other does not
+abbrev pub IsOdd : Definitions → Definitions → List ℕ → Type 0
+IsOdd list other name = (o : OddAtt) × (odd_of list other ≡ Some o) × (name ≡ odd_name o)
 
 -- what is odd, as a cause
 abbrev pub cause_of : Odd → Cause

@@ -1,18 +1,12 @@
 -- What the definitions of breaking say together.
-use Rattle.std.specs.Prelude.{◌≡◌, ℕ, List, Option, Some, None, IsTrue}
+use Rattle.std.specs.Prelude.{Option, Some, None, IsTrue}
 use Rattle.content_models.specs.declared.content.Content.{Content}
 use Rattle.content_models.specs.Kinds.{text_kind}
 use Rattle.attlist_merge.specs.Lists.{Definitions}
-use Rattle.attlist_merge.specs.Oddness.{odd_of}
-use Rattle.attlist_merge.specs.declared.odd.OddAtt.{OddAtt}
 use Rattle.decl_set.specs.Declarations.{Declarations}
 use Rattle.decl_set.specs.Oddness.{more_text}
-use Rattle.decl_set.specs.Breaks.{Cause, ContentBreaks, BreaksBy, odd_name}
+use Rattle.decl_set.specs.Breaks.{Cause, ContentBreaks, IsOdd, BreaksBy}
 use Rattle.decl_set.specs.declared.breaks.Cause.TheVariants as cause
-
--- this is the first attribute by which the one list allows what the other does not
-abbrev pub IsOdd : Definitions → Definitions → List ℕ → Type 0
-IsOdd list other name = (o : OddAtt) × (odd_of list other ≡ Some o) × (name ≡ odd_name o)
 
 -- the one content allows more text
 abbrev pub HasMoreText : Content → Content → Type 0
