@@ -41,7 +41,12 @@ fn put_entities(out: &mut Text, set: &DeclSet) -> Result<(), NoMemory>
 }
 
 /// Appends the line of an element that is declared.
-fn put_declared(alloc: Global, out: &mut Text, set: &DeclSet, name: &Name) -> Result<(), NoMemory>
+pub(crate) fn put_declared(
+    alloc: Global,
+    out: &mut Text,
+    set: &DeclSet,
+    name: &Name,
+) -> Result<(), NoMemory>
     requires { IsKept set.now }
     ensures { OnOk result (out.new ≡ out.old ++ option_map_or (λ c. spec.written (ElementDecl, spec.element_body (name.now, c))) (content_in set.now name.now) []) }
 {
