@@ -167,19 +167,3 @@ text_parts set =
     ∙ four_parts (concat (map written notes)) _ (concat (map written names)) _ (concat (map written contents)) _ (concat (map written atts)) _
     (rows_of (λ n. (NotationDecl, notation_body n)) set.notations) (rows_of (λ e. (EntityDecl, entity_body e)) set.entities)
     (rows_of (λ e. (ElementDecl, element_body e)) set.elements) (rows_of_lists set.lists)
-
-joined_right : (a b c d empty first second third last : List ℕ) → empty ≡ [] → first ≡ empty ++ a → second ≡ first ++ b → third ≡ second ++ c → last ≡ third ++ d → last ≡ a ++ (b ++ (c ++ d))
-joined_right a b c d empty first second third last start one two three four =
-    four ∙ ap (λ t. t ++ d) (three ∙ ap (λ t. t ++ c) (two ∙ ap (λ t. t ++ b) (one ∙ ap (λ t. t ++ a) start)))
-    ∙ append_assoc (a ++ b) c d ∙ append_assoc a b (c ++ d)
-
--- its parts, written one behind another
-pub text_whole : (set : Declarations) (empty first second third last : List ℕ) → empty ≡ []
-    → first ≡ empty ++ concat (map (λ n. written (NotationDecl, notation_body n)) set.notations)
-    → second ≡ first ++ concat (map (λ e. written (EntityDecl, entity_body e)) set.entities)
-    → third ≡ second ++ concat (map (λ e. written (ElementDecl, element_body e)) set.elements)
-    → last ≡ third ++ concat (map (λ l. concat (map (λ e. written (AttlistDecl, attribute_body l.0 e)) l.1)) set.lists) → last ≡ flat_text set
-text_whole set empty first second third last start one two three four =
-    joined_right (concat (map (λ n. written (NotationDecl, notation_body n)) set.notations)) (concat (map (λ e. written (EntityDecl, entity_body e)) set.entities))
-    (concat (map (λ e. written (ElementDecl, element_body e)) set.elements)) (concat (map list_row set.lists)) empty first second third last start one two three four
-    ∙ sym (text_parts set)

@@ -5,7 +5,6 @@ use Rattle.std.specs.Char.{encode_utf8}
 use Rattle.std.specs.List.{concat}
 use Rattle.std.proofs.lemmas.List.{take_more}
 use Rattle.attlist_merge.specs.Lists.{Entry}
-use Rattle.content_models.specs.declared.content.Content.{Content}
 use Rattle.dtd_scanner.specs.declared.item.ItemKind.TheVariants.{ElementDecl, AttlistDecl, EntityDecl, NotationDecl}
 use Rattle.decl_set.specs.Asked.{IsKept}
 use Rattle.decl_set.specs.Declarations.{Declarations, Element, content_in, name_of}
@@ -13,7 +12,7 @@ use Rattle.dtd_flattener.specs.Flat.{attribute_tail, attribute_body, notation_bo
 use Rattle.dtd_flattener.specs.Sizes.{size_of, capped}
 use Rattle.dtd_flattener.proofs.Appended.{rows_more, rows_end, element_row, content_row, element_more, text_parts}
 
-encoded_append : (a b : List ℕ) → encode_utf8_all (a ++ b) ≡ encode_utf8_all a ++ encode_utf8_all b
+pub encoded_append : (a b : List ℕ) → encode_utf8_all (a ++ b) ≡ encode_utf8_all a ++ encode_utf8_all b
 encoded_append [] b = refl
 encoded_append (c ∷ a) b = ap (λ t. encode_utf8 c ++ t) (encoded_append a b) ∙ sym (append_assoc (encode_utf8 c) (encode_utf8_all a) (encode_utf8_all b))
 
