@@ -103,10 +103,10 @@ found_at (x ∷ xs) (suc i) e apart at =
     let off = bytes_swap x.0 e.0 (fails_at (λ (other : Element). bytes_eq x.0 other.0) xs i e (not-true _ parts.0) at) in
     ap (λ b. cond b (Some x.1) (lookup (bytes_eq e.0) xs)) off ∙ found_at xs i e parts.1 at
 
-abbrev element_row : Element → List ℕ
+abbrev pub element_row : Element → List ℕ
 element_row e = written (ElementDecl, element_body e)
 
-abbrev content_row : List ℕ → Option Content → List ℕ
+abbrev pub content_row : List ℕ → Option Content → List ℕ
 content_row name found = option_map_or (λ c. written (ElementDecl, element_body (name, c))) found []
 
 row_found : (set : Declarations) (i : ℕ) (e : Element) (name : List ℕ) → IsKept set → slice_get set.elements i ≡ Some e → name ≡ e.0 → content_row name (content_in set name) ≡ element_row e
@@ -150,7 +150,7 @@ four_parts a b c d e f g h one two three four =
     ap (λ t. t ++ (c ++ (e ++ g))) one ∙ ap (λ t. b ++ (t ++ (e ++ g))) two ∙ ap (λ t. b ++ (d ++ (t ++ g))) three ∙ ap (λ t. b ++ (d ++ (f ++ t))) four
 
 -- the four parts of a flat text
-text_parts : (set : Declarations) → flat_text set
+pub text_parts : (set : Declarations) → flat_text set
     ≡ concat (map (λ n. written (NotationDecl, notation_body n)) set.notations)
     ++ (concat (map (λ e. written (EntityDecl, entity_body e)) set.entities)
     ++ (concat (map (λ e. written (ElementDecl, element_body e)) set.elements)
@@ -167,19 +167,3 @@ text_parts set =
     ∙ four_parts (concat (map written notes)) _ (concat (map written names)) _ (concat (map written contents)) _ (concat (map written atts)) _
     (rows_of (λ n. (NotationDecl, notation_body n)) set.notations) (rows_of (λ e. (EntityDecl, entity_body e)) set.entities)
     (rows_of (λ e. (ElementDecl, element_body e)) set.elements) (rows_of_lists set.lists)
-
-joined_right : (a b c d empty first second third last : List ℕ) → empty ≡ [] → first ≡ empty ++ a → second ≡ first ++ b → third ≡ second ++ c → last ≡ third ++ d → last ≡ a ++ (b ++ (c ++ d))
-joined_right a b c d empty first second third last start one two three four =
-    four ∙ ap (λ t. t ++ d) (three ∙ ap (λ t. t ++ c) (two ∙ ap (λ t. t ++ b) (one ∙ ap (λ t. t ++ a) start)))
-    ∙ append_assoc (a ++ b) c d ∙ append_assoc a b (c ++ d)
-
--- its parts, written one behind another
-pub text_whole : (set : Declarations) (empty first second third last : List ℕ) → empty ≡ []
-    → first ≡ empty ++ concat (map (λ n. written (NotationDecl, notation_body n)) set.notations)
-    → second ≡ first ++ concat (map (λ e. written (EntityDecl, entity_body e)) set.entities)
-    → third ≡ second ++ concat (map (λ e. written (ElementDecl, element_body e)) set.elements)
-    → last ≡ third ++ concat (map (λ l. concat (map (λ e. written (AttlistDecl, attribute_body l.0 e)) l.1)) set.lists) → last ≡ flat_text set
-text_whole set empty first second third last start one two three four =
-    joined_right (concat (map (λ n. written (NotationDecl, notation_body n)) set.notations)) (concat (map (λ e. written (EntityDecl, entity_body e)) set.entities))
-    (concat (map (λ e. written (ElementDecl, element_body e)) set.elements)) (concat (map list_row set.lists)) empty first second third last start one two three four
-    ∙ sym (text_parts set)

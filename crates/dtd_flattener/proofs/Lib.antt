@@ -8,6 +8,8 @@ pub mod Bodies
 pub mod Lines
 pub mod Apart
 pub mod Appended
+pub mod Sized
+pub mod Streamed
 pub mod Notations
 pub mod Spelling
 pub mod Elements

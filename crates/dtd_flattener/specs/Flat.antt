@@ -85,6 +85,10 @@ preset_text preset.Implied = codes "#IMPLIED"
 preset_text (preset.Value text) = quoted (escaped is_special_value text)
 preset_text (preset.Fixed text) = codes "#FIXED " ++ quoted (escaped is_special_value text)
 
+-- what is written of an attribute behind its element: its name, its type and its preset
+abbrev pub attribute_tail : Entry → List ℕ
+attribute_tail e = e.0 ++ (codes " " ++ (type_text e.1.kind ++ (codes " " ++ preset_text e.1.preset)))
+
 abbrev pub attribute_body : List ℕ → Entry → List ℕ
 attribute_body element e =
     codes " " ++ (element ++ (codes " " ++ (e.0 ++ (codes " " ++ (type_text e.1.kind ++ (codes " " ++ preset_text e.1.preset))))))

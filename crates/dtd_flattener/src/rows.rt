@@ -106,6 +106,21 @@ pub(crate) fn put_element(
     put_end(out)
 }
 
+/// Appends what is written of an attribute behind its element.
+pub(crate) fn put_attribute_tail(
+    out: &mut Text,
+    name: &Name,
+    definition: &Definition,
+) -> Result<(), NoMemory>
+    ensures { OnOk result (out.new ≡ out.old ++ spec.attribute_tail (name.now, definition.now)) }
+{
+    out.push_slice(name.text().as_slice())?;
+    out.push(' ')?;
+    put_type(out, &definition.kind)?;
+    out.push(' ')?;
+    put_preset(out, &definition.preset)
+}
+
 fn put_attribute_body(
     out: &mut Text,
     element: &Name,
@@ -115,11 +130,7 @@ fn put_attribute_body(
     ensures { OnOk result (out.new ≡ out.old ++ spec.attribute_body element.now (name.now, definition.now)) }
 {
     put_name(out, element)?;
-    out.push_slice(name.text().as_slice())?;
-    out.push(' ')?;
-    put_type(out, &definition.kind)?;
-    out.push(' ')?;
-    put_preset(out, &definition.preset)
+    put_attribute_tail(out, name, definition)
 }
 
 /// Appends the line of an attribute.

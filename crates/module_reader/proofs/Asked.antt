@@ -14,13 +14,13 @@ use Rattle.pe_expansion.specs.declared.openings.Opened.{Opened}
 use Rattle.pe_expansion.specs.declared.pieces.Manner.TheVariants as manner
 use Rattle.pe_expansion.proofs.Spending.{WantedBy, Wants, expansion_wants, opening_wants}
 use Rattle.module_reader.specs.Asking.{OpensIn, IsOpened, IsWanted, IsWritten, OpensOnce, Turns, WritesOnce, stopped, written}
-use Rattle.module_reader.specs.Moves.{Gives, counted}
+use Rattle.module_reader.specs.Moves.{Gives, Moves, counted}
 use Rattle.module_reader.specs.Sources.{Files, Source, asking, asking_most, heard}
 use Rattle.module_reader.specs.Stops.{refused}
 use Rattle.module_reader.specs.declared.asking.Form.{Form}
 use Rattle.module_reader.specs.declared.asking.Form.TheVariants.{Body, Literal}
-use Rattle.module_reader.specs.declared.faults.ReadFault.{ReadFault}
-use Rattle.module_reader.specs.declared.faults.ReadFault.TheVariants as fault
+use Rattle.module_reader.specs.declared.refusals.Stop.{Stop}
+use Rattle.module_reader.specs.declared.refusals.Stop.TheVariants as fault
 use Rattle.module_reader.specs.declared.standing.Standing.{Standing}
 use Rattle.module_reader.specs.declared.state.State.{State}
 
@@ -48,6 +48,28 @@ writes_once form names old spent text (Err f) expands more = (expands.0, ap (λ 
 
 pub opens_not : (names : List (List ℕ)) (s : State) (name : List ℕ) (f : PeFault) → Fails f (opening s.bound names s.spent name) → Fails f (opening s.bound names s.spent name) × (s ≡ s) × IsWanted s.bound f
 opens_not names s name f fails = (fails, refl, fails_wanted s.bound _ f fails (opening_wants s.bound names s.spent name))
+
+-- ---- a turn
+
+-- the reading stops
+turn-stops : {X : Type 0} (Y : Type 0) (source : Source) (c : Standing) (at : ℕ) (said : Result X PeFault) (old new : State) (f : PeFault) (stop : Stop) → Fails f said → (f ≡ pe.NoMemory → stop ≡ fault.NoMemory)
+    → Moves {T = Unit {0}} (stopped source c at old f) new (Err stop) → Turns {Y = Y} source c at said old new (Err stop)
+turn-stops Y source c at said old new f fault.LoadFailed fails memory moves = tt
+turn-stops Y source c at said old new f fault.NoMemory fails memory moves = tt
+turn-stops Y source c at said old new pe.NoMemory (fault.Refused refusal) fails memory moves = (let no : fault.Refused refusal ≡ fault.NoMemory = memory refl in cc)
+turn-stops Y source c at said old new f (fault.Refused refusal) fails memory moves = (f, fails, moves)
+
+pub same_stop : (s : Stop) → (let r : Result (Unit {0}) Stop = Err s in r ≡ Err fault.NoMemory) → s ≡ fault.NoMemory
+same_stop s e = cc
+
+pub turn_stops : {X : Type 0} (Y : Type 0) (holds : Option Files) (catalog : Named) (c : Standing) (at : ℕ) (said : Result X PeFault) (old s new : State) (f : PeFault) (stop : Stop) → Fails f said → s ≡ old
+    → (f ≡ pe.NoMemory → stop ≡ fault.NoMemory) → IfSome holds (λ files. Moves {T = Unit {0}} (stopped (record { files = files; catalog = catalog }) c at s f) new (Err stop))
+    → IfSome holds (λ files. Turns {Y = Y} (record { files = files; catalog = catalog }) c at said old new (Err stop))
+turn_stops Y None catalog c at said old s new f stop fails same memory moves = tt
+turn_stops Y (Some files) catalog c at said old s new f stop fails same memory moves =
+    let source : Source = record { files = files; catalog = catalog } in
+    let P : State → Type 0 = λ (t : State). Moves {T = Unit {0}} (stopped source c at t f) new (Err stop) in
+    turn-stops Y source c at said old new f stop fails memory (subst P same moves)
 
 -- ---- what is left to ask
 
@@ -83,11 +105,11 @@ abbrev pub LeftIn : {X : Type 0} → Option Files → Named → Standing → ℕ
 LeftIn holds catalog c at ask left first now = IfSome holds (λ files. asking_most (record { files = files; catalog = catalog }) c at left ask now ≡ asking (record { files = files; catalog = catalog }) c at ask first)
 
 -- a turn, by a store that tells
-abbrev pub TurnsIn : {X Y : Type 0} → Option Files → Named → Standing → ℕ → Result X PeFault → State → State → Result (Option Y) ReadFault → Type 0
+abbrev pub TurnsIn : {X Y : Type 0} → Option Files → Named → Standing → ℕ → Result X PeFault → State → State → Result (Option Y) Stop → Type 0
 TurnsIn holds catalog c at said old new r = IfSome holds (λ files. Turns (record { files = files; catalog = catalog }) c at said old new r)
 
 -- a refusal that is said
-abbrev pub Stopped : {X : Type 0} → Result X Fault → ReadFault → Type 0
+abbrev pub Stopped : {X : Type 0} → Result X Fault → Stop → Type 0
 Stopped said (fault.Refused refusal) = said ≡ Err refusal
 Stopped said fault.LoadFailed = Unit {0}
 Stopped said fault.NoMemory = Unit {0}
@@ -121,7 +143,7 @@ module _ {X : Type 0} (Y : Type 0) (catalog : Named) (c : Standing) (at : ℕ) (
       sym (rw none at is) ∙ most_ends (record { files = files; catalog = catalog }) c at ask s t turn.0 turn.1 turn.2
 
   -- the reading stops
-  pub left_stops : (holds now : Option Files) (f : ReadFault) → now ≡ holds → LeftIn holds catalog c at ask left first s → TurnsIn {Y = Y} now catalog c at (ask s) s t (Err f)
+  pub left_stops : (holds now : Option Files) (f : Stop) → now ≡ holds → LeftIn holds catalog c at ask left first s → TurnsIn {Y = Y} now catalog c at (ask s) s t (Err f)
       → IfSome holds (λ files. Stopped (asking (record { files = files; catalog = catalog }) c at ask first) f)
   left_stops None now f same is turns = tt
   left_stops (Some files) None f same is turns = cc
@@ -141,7 +163,7 @@ left_answers catalog c at ask first s left (Some files) x is answers = sym is �
 -- ---- what the calls answer
 
 module _ (catalog : Named) (c : Standing) (at : ℕ) (ask : State → Result Written PeFault) (first s new : State) where
-  pub gives_stopped : (holds : Option Files) (f : ReadFault) → IfSome holds (λ files. Stopped (asking (record { files = files; catalog = catalog }) c at ask first) f)
+  pub gives_stopped : (holds : Option Files) (f : Stop) → IfSome holds (λ files. Stopped (asking (record { files = files; catalog = catalog }) c at ask first) f)
       → IfSome holds (λ files. Gives (counted (asking (record { files = files; catalog = catalog }) c at ask first)) new (Err f))
   gives_stopped None f stops = tt
   gives_stopped (Some files) (fault.Refused refusal) stops = rw stops refl
@@ -158,7 +180,7 @@ module _ (catalog : Named) (c : Standing) (at : ℕ) (ask : State → Result Wri
       by (Some files) said = rw said (ap (λ (t : State). Ok (t, text)) (sym answer.1))
 
 module _ (catalog : Named) (c : Standing) (at : ℕ) (ask : State → Result (List ℕ × ℕ) PeFault) (first s new : State) (name : List ℕ) where
-  pub opens_stopped : (holds : Option Files) (f : ReadFault) → IfSome holds (λ files. Stopped (asking (record { files = files; catalog = catalog }) c at ask first) f)
+  pub opens_stopped : (holds : Option Files) (f : Stop) → IfSome holds (λ files. Stopped (asking (record { files = files; catalog = catalog }) c at ask first) f)
       → IfSome holds (λ files. OpensIn (asking (record { files = files; catalog = catalog }) c at ask first) new name (Err f))
   opens_stopped None f stops = tt
   opens_stopped (Some files) (fault.Refused refusal) stops = stops

@@ -12,37 +12,34 @@ use Rattle.jats_fault.specs.declared.fault.Fault.{Fault}
 use Rattle.jats_io.specs.Loads.{held, Loads}
 use Rattle.jats_io.specs.declared.store.Loaded.{Loaded}
 use Rattle.jats_io.specs.declared.store.Loaded.TheVariants.{Bytes}
-use Rattle.module_reader.specs.Outcomes.{Reads, Refuses}
-use Rattle.module_reader.specs.Sets.{catalog_from, catalog_held, named_by}
-use Rattle.module_reader.specs.Sources.{Files, decoded_by}
+use Rattle.module_reader.specs.Endings.{Reads, Refuses}
+use Rattle.dtd_scanner.specs.Walk.{◌>>=◌}
+use Rattle.module_reader.specs.Sets.{catalog_from, named_by}
+use Rattle.module_reader.specs.Sources.{Files, file_text}
 use Rattle.module_reader.specs.Stops.{catalog_stop}
-use Rattle.module_reader.specs.declared.faults.ReadFault.{ReadFault}
-use Rattle.module_reader.specs.declared.faults.ReadFault.TheVariants as fault
+use Rattle.module_reader.specs.declared.refusals.Stop.{Stop}
+use Rattle.module_reader.specs.declared.refusals.Stop.TheVariants as fault
 use Rattle.module_reader.proofs.Modules.{take_short, long_front}
 use Rattle.module_reader.proofs.Refusing.{reads_refused}
 
 -- lines without form
-pub catalog_stops : (name : List ℕ) (said : Result Named CatalogFault) (e : CatalogFault) (f : ReadFault) → catalogs.Reads said (Err e) → Refuses (catalog_stop name e) f → (e ≡ catalog.NoMemory → f ≡ fault.NoMemory) → Reads (named_by name said) (Err f)
+pub catalog_stops : (name : List ℕ) (said : Result Named CatalogFault) (e : CatalogFault) (f : Stop) → catalogs.Reads said (Err e) → Refuses (catalog_stop name e) f → (e ≡ catalog.NoMemory → f ≡ fault.NoMemory) → Reads (named_by name said) (Err f)
 catalog_stops name said catalog.NoMemory f is refuses memory = rw (memory refl) tt
 catalog_stops name said (catalog.Malformed line) f is refuses memory = reads_refused _ _ f (rw is refl) refuses
 catalog_stops name said (catalog.PathEscapes line) f is refuses memory = reads_refused _ _ f (rw is refl) refuses
 
--- the first bytes show a file that is too long as well
-catalog_front : (name b : List ℕ) → catalog_held name (Some (take 4194305 b)) ≡ catalog_held name (Some b)
-catalog_front name b = by (nat_lt 4194304 (length b)) refl
-  where
-    by : (t : Bool) → nat_lt 4194304 (length b) ≡ t → catalog_held name (Some (take 4194305 b)) ≡ catalog_held name (Some b)
-    by true e = rw (e, long_front 4194304 b (grind (arith, nat_tests))) refl
-    by false e = ap (λ (x : List ℕ). catalog_held name (Some x)) (take_short 4194305 b (grind (arith, nat_tests)))
-
-held_front : (name bytes : List ℕ) (h : Option (List ℕ)) → option_map (take 4194305) h ≡ Some bytes → catalog_held name h ≡ catalog_held name (Some bytes)
-held_front name bytes None e = cc
-held_front name bytes (Some b) e = let same : take 4194305 b ≡ bytes = cc in sym (catalog_front name b) ∙ ap (λ (x : List ℕ). catalog_held name (Some x)) same
-
-pub catalog_told : (holds : Option Files) (name : List ℕ) (loaded : Loaded) (bytes : Vec ℕ Global) (r : Result Named ReadFault) → loaded ≡ Bytes bytes → IfSome holds (λ files. Loads files name 4194304 (Ok loaded))
-    → Reads (catalog_held name (Some bytes.items)) r → IfSome holds (λ files. Reads (catalog_from files (Some name)) r)
+-- a text that is read, and what it is
+pub catalog_read : (holds : Option Files) (name text : List ℕ) (r : Result Named Stop) → IfSome holds (λ files. file_text 4194304 files name ≡ Ok text) → Reads (named_by name (catalog_of name text)) r
+    → IfSome holds (λ files. Reads (catalog_from files (Some name)) r)
 unfolding catalog_from
-catalog_told None name loaded bytes r is told reads = tt
-catalog_told (Some files) name loaded bytes r is told reads =
-    let P : Result Named Fault → Type 0 = λ said. Reads said r in
-    subst P (sym (held_front name bytes.items (held files name) (rw is at told))) reads
+catalog_read None name text r is reads = tt
+catalog_read (Some files) name text r is reads =
+    let P : Result (List ℕ) Fault → Type 0 = λ said. Reads (said >>= λ text. named_by name (catalog_of name text)) r in subst P (sym is) reads
+
+-- a text that is not
+pub catalog_unread : (holds : Option Files) (name : List ℕ) (f : Stop) → IfSome holds (λ files. Reads {T = List ℕ} (file_text 4194304 files name) (Err f)) → IfSome holds (λ files. Reads {T = Named} (catalog_from files (Some name)) (Err f))
+unfolding catalog_from
+catalog_unread None name f reads = tt
+catalog_unread (Some files) name (fault.Refused refusal) reads = ap (λ (r : Result (List ℕ) Fault). r >>= λ text. named_by name (catalog_of name text)) reads
+catalog_unread (Some files) name fault.LoadFailed reads = tt
+catalog_unread (Some files) name fault.NoMemory reads = tt

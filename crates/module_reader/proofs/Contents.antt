@@ -11,6 +11,7 @@ use Rattle.content_models.specs.Reading.{content_of}
 use Rattle.content_models.proofs.Contents.{content_sound, content_complete}
 use Rattle.content_models.proofs.Exact.{few, nothing_read}
 use Rattle.module_reader.specs.ContentRead.{ReadsContent}
+use Rattle.module_reader.specs.Laws.{ContentsRead}
 
 shallow : (t : List ℕ) → nat_lt 64 (most_open 0 t) ≡ false → IsTooDeep t → ⊥
 shallow t e d = (let l : most_open 0 t ≤ 64 = ltb-false 64 (most_open 0 t) e in omega arith)
@@ -22,3 +23,7 @@ read_content t (Err fault.Malformed) e p = nothing_read t p.1 (content_of t) ref
 read_content t (Err fault.PositionsOver) e p = (p.1, content_complete t p.1 p.2 p.0, lt-ltb 1024 (occurrences p.1) p.3)
 read_content t (Err (fault.DuplicateMixedName name)) e p = (Mixed p.1, content_complete t (Mixed p.1) p.2 p.0, le-ltb 1024 (occurrences (Mixed p.1)) p.3, p.4)
 read_content t (Err fault.NoMemory) e p = tt
+
+-- a content is read exactly where it is spelled
+pub contents_read : ContentsRead
+contents_read text content shallow = (content_sound text content, λ spells. content_complete text content spells shallow)

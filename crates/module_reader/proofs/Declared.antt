@@ -5,12 +5,12 @@ use Rattle.decl_set.specs.Declarations.{Declarations}
 use Rattle.decl_set.specs.Outcomes.{Fails}
 use Rattle.decl_set.specs.declared.faults.DeclFault.{DeclFault}
 use Rattle.decl_set.specs.declared.faults.DeclFault.TheVariants as decl
-use Rattle.module_reader.specs.Outcomes.{Refuses}
+use Rattle.module_reader.specs.Endings.{Refuses}
 use Rattle.module_reader.specs.Moves.{Moves}
 use Rattle.module_reader.specs.Reading.{declares, counting}
 use Rattle.module_reader.specs.Stops.{decl_stop}
-use Rattle.module_reader.specs.declared.faults.ReadFault.{ReadFault}
-use Rattle.module_reader.specs.declared.faults.ReadFault.TheVariants as fault
+use Rattle.module_reader.specs.declared.refusals.Stop.{Stop}
+use Rattle.module_reader.specs.declared.refusals.Stop.TheVariants as fault
 use Rattle.module_reader.specs.declared.standing.Standing.{Standing}
 use Rattle.module_reader.specs.declared.state.State.{State}
 
@@ -36,13 +36,13 @@ said_is (decl.ElementsOver a) said o h = h
 said_is (decl.FollowsOver a) said o h = h
 said_is decl.NoMemory said o h = absurd (o refl)
 
-pub declares_stop : (T : Type 0) (c : Standing) (at : ℕ) (s new : State) (said : Result Declarations DeclFault) (f : DeclFault) (stop : ReadFault)
+pub declares_stop : (T : Type 0) (c : Standing) (at : ℕ) (s new : State) (said : Result Declarations DeclFault) (f : DeclFault) (stop : Stop)
     → (f ≡ decl.NoMemory → ⊥) → Fails f said → Refuses (decl_stop c at f) stop → Moves {T = T} (declares c at s said) new (Err stop)
 declares_stop T c at s new said f (fault.Refused refusal) o h r = ap (declares c at s) (said_is f said o h) ∙ ap Err (sym r)
 declares_stop T c at s new said f fault.LoadFailed o h r = tt
 declares_stop T c at s new said f fault.NoMemory o h r = tt
 
-pub counting_stop : (T : Type 0) (c : Standing) (at : ℕ) (s new : State) (said : Result (Declarations × ℕ) DeclFault) (f : DeclFault) (stop : ReadFault)
+pub counting_stop : (T : Type 0) (c : Standing) (at : ℕ) (s new : State) (said : Result (Declarations × ℕ) DeclFault) (f : DeclFault) (stop : Stop)
     → (f ≡ decl.NoMemory → ⊥) → Fails f said → Refuses (decl_stop c at f) stop → Moves {T = T} (counting c at s said) new (Err stop)
 counting_stop T c at s new said f (fault.Refused refusal) o h r = ap (counting c at s) (said_is f said o h) ∙ ap Err (sym r)
 counting_stop T c at s new said f fault.LoadFailed o h r = tt

@@ -9,12 +9,15 @@ pub mod Counted
 pub mod AskedChars
 pub mod ReadChars
 pub mod Entry
+pub mod FileTexts
+pub mod Handing
 pub mod Naming
 pub mod Shifting
 pub mod Asked
 pub mod CatalogFiles
 pub mod Contents
 pub mod Declared
+pub mod EntityMoves
 pub mod ExpansionChars
 pub mod Going
 pub mod Growing

@@ -16,7 +16,7 @@ use Rattle.jats_fault.specs.declared.fault.Fault.{Fault}
 use Rattle.module_reader.specs.Loading.{Adds, FindsModule, IsModule, LoadsModule}
 use Rattle.module_reader.specs.Moves.{GoesOn}
 use Rattle.module_reader.specs.Sources.{Files, Source, held_as, measured, module_of, new_module}
-use Rattle.module_reader.specs.declared.faults.ReadFault.{ReadFault}
+use Rattle.module_reader.specs.declared.refusals.Stop.{Stop}
 use Rattle.module_reader.specs.declared.state.State.{State}
 use Rattle.module_reader.proofs.Lists.{get_last, get_kept}
 
@@ -40,7 +40,7 @@ added_goes_on old new name number adds = rw adds.3 (record {
   chars = λ all. record { bound = all.bound; modules = list_all-append (λ (m : List ℕ × List ℕ). are_chars m.1) old.modules ((name, adds.0) ∷ []) ∙ both_true all.modules (both_true adds.4 refl) };
 })
 
-pub all_added : (old new : State) (name : List ℕ) (r : Result ℕ ReadFault) → IfOk r (λ k. Adds old new name k) → IfOk r (λ k. IsModule new.modules k name) × OnOk r (GoesOn old new)
+pub all_added : (old new : State) (name : List ℕ) (r : Result ℕ Stop) → IfOk r (λ k. Adds old new name k) → IfOk r (λ k. IsModule new.modules k name) × OnOk r (GoesOn old new)
 all_added old new name (Ok number) adds = (added_is old new name number adds, added_goes_on old new name number adds)
 all_added old new name (Err f) adds = (tt, tt)
 
@@ -65,7 +65,7 @@ held_front s name bytes None e = cc
 held_front s name bytes (Some b) e = let same : take 4194305 b ≡ bytes = cc in sym (measured_front s name b) ∙ ap (measured s name) same
 
 -- a module that is loaded now
-pub new_told : (holds : Option Files) (s new : State) (name : List ℕ) (loaded : Loaded) (bytes : Vec ℕ Global) (r : Result ℕ ReadFault) → loaded ≡ Bytes bytes → length s.modules < 1024
+pub new_told : (holds : Option Files) (s new : State) (name : List ℕ) (loaded : Loaded) (bytes : Vec ℕ Global) (r : Result ℕ Stop) → loaded ≡ Bytes bytes → length s.modules < 1024
     → IfSome holds (λ files. Loads files name 4194304 (Ok loaded)) → LoadsModule (measured s name bytes.items) new name r
     → IfSome holds (λ files. (named : Named) → LoadsModule (new_module (record { files = files; catalog = named }) s name) new name r)
 unfolding new_module
@@ -76,7 +76,7 @@ new_told (Some files) s new name loaded bytes r is room told loads = λ named.
     rw few (subst P (sym (held_front s name bytes.items (held files name) (rw is at told))) loads)
 
 -- a module that is not found
-pub module_told : (holds : Option Files) (s new : State) (name : List ℕ) (r : Result ℕ ReadFault) → lookup (bytes_eq name) s.modules ≡ None
+pub module_told : (holds : Option Files) (s new : State) (name : List ℕ) (r : Result ℕ Stop) → lookup (bytes_eq name) s.modules ≡ None
     → IfSome holds (λ files. (named : Named) → LoadsModule (new_module (record { files = files; catalog = named }) s name) new name r)
     → IfSome holds (λ files. (named : Named) → LoadsModule (module_of (record { files = files; catalog = named }) s name) new name r)
 module_told None s new name r none told = tt

@@ -19,8 +19,8 @@ use Rattle.module_reader.specs.Frames.{Advances, Begins, Begun, Enters, Passage,
 use Rattle.module_reader.specs.Moves.{AreChars, GoesOn, Moves, Gives, counted, loaded_at}
 use Rattle.module_reader.specs.Reading.{Names, declaration, expanded, section_by, standing_of}
 use Rattle.module_reader.specs.Sources.{Source, asking}
-use Rattle.module_reader.specs.declared.faults.ReadFault.{ReadFault}
-use Rattle.module_reader.specs.declared.faults.ReadFault.TheVariants as fault
+use Rattle.module_reader.specs.declared.refusals.Stop.{Stop}
+use Rattle.module_reader.specs.declared.refusals.Stop.TheVariants as fault
 use Rattle.module_reader.specs.declared.frames.Frame.{Frame}
 use Rattle.module_reader.specs.declared.frames.Work.{Work}
 use Rattle.module_reader.specs.declared.standing.Standing.{Standing}
@@ -45,7 +45,7 @@ stays_size s t f ws at goes there all later within =
     omega arith
 
 -- a refusal is what is left
-pub moves_fault : (source : Source) (w : Work) (said : Result State Fault) (t : State) (f : ReadFault) → ((refusal : Fault) → said ≡ Err refusal → left_of source w ≡ Err refusal)
+pub moves_fault : (source : Source) (w : Work) (said : Result State Fault) (t : State) (f : Stop) → ((refusal : Fault) → said ≡ Err refusal → left_of source w ≡ Err refusal)
     → Moves {T = Unit {0}} said t (Err f) → Stepped {X = Unit {0}} source w w (Err f)
 moves_fault source w said t (fault.Refused refusal) keeps is = keeps refusal is
 moves_fault source w said t fault.LoadFailed keeps is = tt
@@ -75,7 +75,7 @@ advances_to w t at sound goes later within =
 
 -- ---- sections
 
-pub gives_fault : {Y : Type 0} (source : Source) (w : Work) (said : Result (State × Y) Fault) (t : State) (f : ReadFault) → ((refusal : Fault) → said ≡ Err refusal → left_of source w ≡ Err refusal)
+pub gives_fault : {Y : Type 0} (source : Source) (w : Work) (said : Result (State × Y) Fault) (t : State) (f : Stop) → ((refusal : Fault) → said ≡ Err refusal → left_of source w ≡ Err refusal)
     → Gives said t (Err f) → Stepped {X = Unit {0}} source w w (Err f)
 gives_fault source w said t (fault.Refused refusal) keeps is = keeps refusal is
 gives_fault source w said t fault.LoadFailed keeps is = tt
@@ -94,7 +94,7 @@ module _ (w : Work) (u : State) (sound : IsSound w) (goes : GoesOn w.state u) wh
   unfolding IsSound size_of
   begun_advances new next keyword begun = subst (Advances w) (sym begun.same) (advances_to w u new.frame.at sound goes begun.later (subst (λ (text : List ℕ). new.frame.at ≤ length text) same_text begun.within))
 
-  pub begun_nears : (new : Work) (next : ℕ) (keyword : List ℕ) (r : Result (Unit {0}) ReadFault) → Begins (record w { state = u }) new next keyword r → OnOk r (Advances w new)
+  pub begun_nears : (new : Work) (next : ℕ) (keyword : List ℕ) (r : Result (Unit {0}) Stop) → Begins (record w { state = u }) new next keyword r → OnOk r (Advances w new)
   begun_nears new next keyword (Ok x) begun = begun_advances new next keyword begun
   begun_nears new next keyword (Err f) begun = tt
 
@@ -107,7 +107,7 @@ module _ (source : Source) (w : Work) (next : ℕ) (stands : Stands (current w) 
 
   module _ (u : State) (word : List ℕ) (gives : counted (expanded source w.frame.names w.frame.standing w.frame.at w.state keyword) ≡ Ok (u, word)) (sound : IsSound w) (goes : GoesOn w.state u) where
     -- a keyword that is none, or ignored contents that do not end
-    begun_fault : (f : ReadFault) → Begins {X = Unit {0}} (record w { state = u }) (record w { state = u }) next (trimmed word) (Err f) → Stepped {X = Unit {0}} source w w (Err f)
+    begun_fault : (f : Stop) → Begins {X = Unit {0}} (record w { state = u }) (record w { state = u }) next (trimmed word) (Err f) → Stepped {X = Unit {0}} source w w (Err f)
     unfolding left_of
     begun_fault (fault.Refused refusal) is =
         let said = λ (text : List ℕ). section_by w.frame.standing w.frame.at (record { state = u; sections = w.frame.sections.items }) (drop w.frame.at text) (next - w.frame.at) u (trimmed word) ≡ Err refusal in
@@ -126,7 +126,7 @@ module _ (source : Source) (w : Work) (next : ℕ) (stands : Stands (current w) 
         ap (left_of source) begun.same ∙ stays_left source w.state u f w.waiting.items at sections u goes sound.0 sound.1
         ∙ section_left source (waiting w) (current w) w.state next u word sections at stands (rw contents at gives) begun.later (subst said (same_text w u sound goes) begun.goes)
 
-    pub begun_stepped : (new : Work) (r : Result (Unit {0}) ReadFault) → Begins (record w { state = u }) new next (trimmed word) r → Stepped source w new r
+    pub begun_stepped : (new : Work) (r : Result (Unit {0}) Stop) → Begins (record w { state = u }) new next (trimmed word) r → Stepped source w new r
     begun_stepped new (Ok x) begun = begun_steps new begun
     begun_stepped new (Err f) begun = begun_fault f begun
 
@@ -154,7 +154,7 @@ module _ (source : Source) (w : Work) (next : ℕ) (stands : Stands (current w) 
   unfolding left_of
   unopened_steps refusal is = refused_left source (waiting w) (current w) w.state next name refusal stands named_it is
 
-  pub unopened_fault : (u : State) (f : ReadFault) → OpensIn (asking source w.frame.standing w.frame.at (λ t. opening t.bound w.frame.names t.spent name) w.state) u name (Err f) → Stepped {X = Unit {0}} source w w (Err f)
+  pub unopened_fault : (u : State) (f : Stop) → OpensIn (asking source w.frame.standing w.frame.at (λ t. opening t.bound w.frame.names t.spent name) w.state) u name (Err f) → Stepped {X = Unit {0}} source w w (Err f)
   unopened_fault u (fault.Refused refusal) is = unopened_steps refusal is
   unopened_fault u fault.LoadFailed is = tt
   unopened_fault u fault.NoMemory is = tt

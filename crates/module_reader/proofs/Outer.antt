@@ -12,16 +12,16 @@ use Rattle.pe_expansion.specs.declared.bindings.PeText.{PeText}
 use Rattle.pe_expansion.specs.declared.bindings.PeText.TheVariants.{Inner, Outer}
 use Rattle.module_reader.specs.Loading.{IsModule, LoadsModule, NamesFile, giving}
 use Rattle.module_reader.specs.Moves.{AreChars, GoesOn, Moves}
-use Rattle.module_reader.specs.Outcomes.{LoadFailed, Refuses}
+use Rattle.module_reader.specs.Endings.{LoadFailed, Refuses}
 use Rattle.module_reader.specs.Sources.{Files, Source, given, loaded, module_of, resolved, system_of}
 use Rattle.module_reader.specs.Stops.{refused}
-use Rattle.module_reader.specs.declared.faults.ReadFault.{ReadFault}
-use Rattle.module_reader.specs.declared.faults.ReadFault.TheVariants as fault
+use Rattle.module_reader.specs.declared.refusals.Stop.{Stop}
+use Rattle.module_reader.specs.declared.refusals.Stop.TheVariants as fault
 use Rattle.module_reader.specs.declared.standing.Standing.{Standing}
 use Rattle.module_reader.specs.declared.state.State.{State}
 use Rattle.module_reader.proofs.Going.{given_goes_on, goes_further, module_chars}
 
-names_refused : (source : Source) (outcome : Result State Fault) (s : State) (name : List ℕ) (said : Fault) (f : ReadFault) → outcome ≡ Err said → Refuses said f → NamesFile source outcome s name (Err f)
+names_refused : (source : Source) (outcome : Result State Fault) (s : State) (name : List ℕ) (said : Fault) (f : Stop) → outcome ≡ Err said → Refuses said f → NamesFile source outcome s name (Err f)
 names_refused source outcome s name said (fault.Refused refusal) is refuses = rw refuses is
 names_refused source outcome s name said fault.LoadFailed is refuses = absurd refuses
 names_refused source outcome s name said fault.NoMemory is refuses = tt
@@ -32,7 +32,7 @@ module _ (source : Source) (c : Standing) (at : ℕ) (s : State) (name : List �
   loaded_outer = rw there refl
 
   -- the identifier leaves the folder
-  pub names_escapes : (f : ReadFault) → None ≡ resolve source.catalog base ids → Refuses (refused c at 51 (system_of ids ∷ [])) f → NamesFile source (loaded source c at s name) s name (Err f)
+  pub names_escapes : (f : Stop) → None ≡ resolve source.catalog base ids → Refuses (refused c at 51 (system_of ids ∷ [])) f → NamesFile source (loaded source c at s name) s name (Err f)
   names_escapes f none refuses = names_refused source _ s name _ f (loaded_outer ∙ rw (← none) refl) refuses
 
   -- it names a file
@@ -40,7 +40,7 @@ module _ (source : Source) (c : Standing) (at : ℕ) (s : State) (name : List �
   names_file file some = (rw there tt, loaded_outer ∙ rw (← some) refl)
 
 -- nothing is to be loaded, or the identifier leaves the folder
-pub moves_named : (holds : Option Files) (catalog : Named) (c : Standing) (at : ℕ) (s new : State) (name : List ℕ) (f : ReadFault)
+pub moves_named : (holds : Option Files) (catalog : Named) (c : Standing) (at : ℕ) (s new : State) (name : List ℕ) (f : Stop)
     → ((files : Files) → NamesFile (record { files = files; catalog = catalog }) (loaded (record { files = files; catalog = catalog }) c at s name) s name (Err f))
     → IfSome holds (λ files. Moves {T = Unit {0}} (loaded (record { files = files; catalog = catalog }) c at s name) new (Err f))
 moves_named None catalog c at s new name f names = tt
@@ -63,7 +63,7 @@ names_outer catalog c at s name file None some names = cc
 names_outer catalog c at s name file (Some f) some names = (names []).0
 
 -- a file is loaded
-pub moves_file : (holds : Option Files) (catalog : Named) (c : Standing) (at : ℕ) (s new : State) (name file : List ℕ) (r : Result (Unit {0}) ReadFault) (o : Option (List ℕ)) → o ≡ Some file
+pub moves_file : (holds : Option Files) (catalog : Named) (c : Standing) (at : ℕ) (s new : State) (name file : List ℕ) (r : Result (Unit {0}) Stop) (o : Option (List ℕ)) → o ≡ Some file
     → ((files : Files) → NamesFile (record { files = files; catalog = catalog }) (loaded (record { files = files; catalog = catalog }) c at s name) s name (Ok o))
     → IfSome holds (λ files. (named : Named) → Moves (giving (record { files = files; catalog = named }) s file name) new r)
     → IfSome holds (λ files. Moves (loaded (record { files = files; catalog = catalog }) c at s name) new r)
@@ -72,7 +72,7 @@ moves_file (Some files) catalog c at s new name file r None some names told = cc
 moves_file (Some files) catalog c at s new name file r (Some f) some names told = let same : f ≡ file = cc in rw ((names files).1, same) (told catalog)
 
 -- a module that is not loaded
-pub moves_unloaded : (holds : Option Files) (s0 s new : State) (file name : List ℕ) (f : ReadFault) → IfSome holds (λ files. (named : Named) → LoadsModule (module_of (record { files = files; catalog = named }) s0 file) s file (Err f))
+pub moves_unloaded : (holds : Option Files) (s0 s new : State) (file name : List ℕ) (f : Stop) → IfSome holds (λ files. (named : Named) → LoadsModule (module_of (record { files = files; catalog = named }) s0 file) s file (Err f))
     → IfSome holds (λ files. (named : Named) → Moves {T = Unit {0}} (giving (record { files = files; catalog = named }) s0 file name) new (Err f))
 moves_unloaded None s0 s new file name f told = tt
 moves_unloaded (Some files) s0 s new file name (fault.Refused refusal) told = λ named. rw (told named) refl

@@ -6,11 +6,11 @@ use Rattle.jats_fault.specs.declared.fault.Fault.{Fault}
 use Rattle.pe_expansion.specs.Ignored.{closes, depth_after, end_from, ignored_end}
 use Rattle.module_reader.specs.Frames.{Begins, Begun, IsMoved, Starts, current, end_of, local_of, with_start}
 use Rattle.module_reader.specs.Keywords.{keyword_of}
-use Rattle.module_reader.specs.Outcomes.{Refuses}
+use Rattle.module_reader.specs.Endings.{Refuses}
 use Rattle.module_reader.specs.Reading.{Local, section_by, ignored}
 use Rattle.module_reader.specs.Stops.{not_ended}
-use Rattle.module_reader.specs.declared.faults.ReadFault.{ReadFault}
-use Rattle.module_reader.specs.declared.faults.ReadFault.TheVariants as fault
+use Rattle.module_reader.specs.declared.refusals.Stop.{Stop}
+use Rattle.module_reader.specs.declared.refusals.Stop.TheVariants as fault
 use Rattle.module_reader.specs.declared.frames.Start.{Start}
 use Rattle.module_reader.specs.declared.frames.Work.{Work}
 use Rattle.module_reader.specs.declared.sections.Keyword.{Keyword}
@@ -53,7 +53,7 @@ module _ (c : Standing) (text : List ℕ) (at next : ℕ) (word : List ℕ) (ord
       by (Some k) e = let m : end ≡ at + k = cc in let n : k ≡ end - at = omega (arith, m) in ap (λ j. Ok (l, j)) n
 
   -- ignored contents that do not end
-  pub starts_unended : (f : ReadFault) → None ≡ ignored_end text next → Refuses (not_ended c at) f → Starts c text at next word (Err f)
+  pub starts_unended : (f : Stop) → None ≡ ignored_end text next → Refuses (not_ended c at) f → Starts c text at next word (Err f)
   starts_unended (fault.Refused refusal) is refuses = λ l. by_end l ∙ by l (ignored_end (drop at text) (next - at)) (is ∙ ignored_later text at next order)
     where
       by : (l : Local) (o : Option ℕ) → None ≡ option_map (λ e. at + e) o → ignored c at l l.state o ≡ Err refusal
@@ -63,7 +63,7 @@ module _ (c : Standing) (text : List ℕ) (at next : ℕ) (word : List ℕ) (ord
   starts_unended fault.NoMemory is refuses = tt
 
 -- the start of a section at the place of a work
-pub starts_fault : (w : Work) (next : ℕ) (word : List ℕ) (f : ReadFault) → Starts w.frame.standing (current w).text w.frame.at next word (Err f) → Begins {X = Unit {0}} w w next word (Err f)
+pub starts_fault : (w : Work) (next : ℕ) (word : List ℕ) (f : Stop) → Starts w.frame.standing (current w).text w.frame.at next word (Err f) → Begins {X = Unit {0}} w w next word (Err f)
 starts_fault w next word (fault.Refused refusal) starts = starts (local_of (current w) w.state)
 starts_fault w next word fault.LoadFailed starts = starts
 starts_fault w next word fault.NoMemory starts = tt

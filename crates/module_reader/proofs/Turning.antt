@@ -7,10 +7,10 @@ use Rattle.dtd_scanner.proofs.Walking.{bind_ok}
 use Rattle.jats_fault.specs.declared.fault.Fault.{Fault}
 use Rattle.module_reader.specs.Frames.{Ends, IsSound, IsThere, Nears, Turns, found, from, left, left_of, passage_of, passages_of, size_of, text_found}
 use Rattle.module_reader.specs.Moves.{AreChars}
-use Rattle.module_reader.specs.Outcomes.{Reads}
+use Rattle.module_reader.specs.Endings.{Reads}
 use Rattle.module_reader.specs.Sources.{Source}
-use Rattle.module_reader.specs.declared.faults.ReadFault.{ReadFault}
-use Rattle.module_reader.specs.declared.faults.ReadFault.TheVariants as fault
+use Rattle.module_reader.specs.declared.refusals.Stop.{Stop}
+use Rattle.module_reader.specs.declared.refusals.Stop.TheVariants as fault
 use Rattle.module_reader.specs.declared.frames.Frame.{Frame}
 use Rattle.module_reader.specs.declared.frames.Work.{Work}
 use Rattle.module_reader.specs.declared.standing.Standing.{Standing}
@@ -23,7 +23,7 @@ pub turn_keeps : (source : Source) (old new : Work) (said : Result State Fault) 
 turn_keeps source old new said true turns is = (turns ∙ is, tt)
 turn_keeps source old new said false turns is = (tt, sym is ∙ turns)
 
-pub turn_refuses : (source : Source) (old new start : Work) (f : ReadFault) → Turns source old new (Err f) → left_of source old ≡ left_of source start → Ends {X = Unit {0}} source start new (Err f)
+pub turn_refuses : (source : Source) (old new start : Work) (f : Stop) → Turns source old new (Err f) → left_of source old ≡ left_of source start → Ends {X = Unit {0}} source start new (Err f)
 turn_refuses source old new start (fault.Refused refusal) turns is = sym is ∙ turns
 turn_refuses source old new start fault.LoadFailed turns is = tt
 turn_refuses source old new start fault.NoMemory turns is = tt
@@ -45,7 +45,7 @@ begins source s f ws text names at sections none =
     ap (λ (fs : List Frame). left source (passages_of s fs) p s) none ∙ bind_ok (from source p s)
     ∙ ap (λ q. from source q s) (passage_by s f (text_found (slice_get s.modules 0)) [] f.standing 0 [] (ap (λ (o : Option ℕ). text_found (found s o)) text) names refl at sections)
 
-pub ends_reads : (source : Source) (old new : Work) (said : Result State Fault) (f : ReadFault) → left_of source old ≡ said → Ends {X = Unit {0}} source old new (Err f) → Reads {T = State} said (Err f)
+pub ends_reads : (source : Source) (old new : Work) (said : Result State Fault) (f : Stop) → left_of source old ≡ said → Ends {X = Unit {0}} source old new (Err f) → Reads {T = State} said (Err f)
 ends_reads source old new said (fault.Refused refusal) is ends = sym is ∙ ends
 ends_reads source old new said fault.LoadFailed is ends = tt
 ends_reads source old new said fault.NoMemory is ends = tt

@@ -6,12 +6,12 @@ use Rattle.std.proofs.lemmas.List.{map_push}
 use Rattle.dtd_scanner.specs.Walk.{◌>>=◌}
 use Rattle.jats_fault.specs.declared.fault.Fault.{Fault}
 use Rattle.module_reader.specs.Frames.{Passage, local_of, left, resumed, all_unread, unread, IsThere, passage_of, passages_of, Stepped, Turns, left_of}
-use Rattle.module_reader.specs.Outcomes.{Refuses}
+use Rattle.module_reader.specs.Endings.{Refuses}
 use Rattle.module_reader.specs.Reading.{Local, ended}
 use Rattle.module_reader.specs.Sources.{Source}
 use Rattle.module_reader.specs.Stops.{not_ended}
-use Rattle.module_reader.specs.declared.faults.ReadFault.{ReadFault}
-use Rattle.module_reader.specs.declared.faults.ReadFault.TheVariants as fault
+use Rattle.module_reader.specs.declared.refusals.Stop.{Stop}
+use Rattle.module_reader.specs.declared.refusals.Stop.TheVariants as fault
 use Rattle.module_reader.specs.declared.frames.Frame.{Frame}
 use Rattle.module_reader.specs.declared.frames.Work.{Work}
 use Rattle.module_reader.specs.declared.standing.Standing.{Standing}
@@ -47,12 +47,12 @@ pub pop_size : (s : State) (f g : Frame) (fs frames : List Frame) → length (pa
 pop_size s f g fs frames over is = rw (is, map_push (passage_of s) fs g, all_unread_push, length-append) (omega arith)
 
 -- a refusal is what is left
-pub refuses_left : (X : Type 0) (source : Source) (old new : Work) (f : ReadFault) (said : Fault) → Refuses said f → left_of source old ≡ Err said → Stepped {X = X} source old new (Err f)
+pub refuses_left : (X : Type 0) (source : Source) (old new : Work) (f : Stop) (said : Fault) → Refuses said f → left_of source old ≡ Err said → Stepped {X = X} source old new (Err f)
 refuses_left X source old new (fault.Refused refusal) said refuses is = is ∙ ap (λ r. Err r) (sym refuses)
 refuses_left X source old new fault.LoadFailed said refuses is = tt
 refuses_left X source old new fault.NoMemory said refuses is = tt
 
-pub refuses_turn : (source : Source) (old new : Work) (f : ReadFault) (said : Fault) → Refuses said f → left_of source old ≡ Err said → Turns source old new (Err f)
+pub refuses_turn : (source : Source) (old new : Work) (f : Stop) (said : Fault) → Refuses said f → left_of source old ≡ Err said → Turns source old new (Err f)
 refuses_turn source old new (fault.Refused refusal) said refuses is = is ∙ ap (λ r. Err r) (sym refuses)
 refuses_turn source old new fault.LoadFailed said refuses is = tt
 refuses_turn source old new fault.NoMemory said refuses is = tt

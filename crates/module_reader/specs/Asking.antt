@@ -9,8 +9,8 @@ use Rattle.pe_expansion.specs.declared.faults.PeFault.TheVariants.{NotLoaded}
 use Rattle.pe_expansion.specs.declared.openings.Opened.{Opened}
 use Rattle.module_reader.specs.declared.asking.Form.{Form}
 use Rattle.module_reader.specs.declared.asking.Form.TheVariants.{Body, Literal}
-use Rattle.module_reader.specs.declared.faults.ReadFault.{ReadFault}
-use Rattle.module_reader.specs.declared.faults.ReadFault.TheVariants as fault
+use Rattle.module_reader.specs.declared.refusals.Stop.{Stop}
+use Rattle.module_reader.specs.declared.refusals.Stop.TheVariants as fault
 use Rattle.module_reader.specs.declared.standing.Standing.{Standing}
 use Rattle.module_reader.specs.declared.state.State.{State}
 use Rattle.module_reader.specs.Moves.{loaded_at}
@@ -50,7 +50,7 @@ OpensOnce said old new name (Ok opened) = IsOpened said old new name opened
 OpensOnce said old new name (Err fault) = Fails fault said × (new ≡ old) × IsWanted old.bound fault
 
 -- a question without an answer: the text that is wanted is loaded, or the reading stops
-abbrev pub Turns : {X Y : Type 0} → Source → Standing → ℕ → Result X PeFault → State → State → Result (Option Y) ReadFault → Type 0
+abbrev pub Turns : {X Y : Type 0} → Source → Standing → ℕ → Result X PeFault → State → State → Result (Option Y) Stop → Type 0
 Turns source c at said old new (Ok (Some answer)) = Unit {0}
 Turns source c at said old new (Ok None) = (f : PeFault) × (said ≡ Err f) × (stopped source c at old f ≡ Ok new)
 Turns source c at said old new (Err (fault.Refused refusal)) = (f : PeFault) × (said ≡ Err f) × (stopped source c at old f ≡ Err refusal)
@@ -63,7 +63,7 @@ HasText bound number name = (text : List ℕ) × (loaded_at bound number ≡ Som
 
 -- the state, the text and the count that are said, the text being that of the entity with this name at the number, and the
 -- count the state's; or the refusal that is said
-abbrev pub OpensIn : Result (State × (List ℕ × ℕ)) Fault → State → List ℕ → Result Opened ReadFault → Type 0
+abbrev pub OpensIn : Result (State × (List ℕ × ℕ)) Fault → State → List ℕ → Result Opened Stop → Type 0
 OpensIn said new name (Ok opened) =
     (s : State) × (text : List ℕ) × (said ≡ Ok (s, (text, opened.spent))) × (new ≡ record s { spent = opened.spent }) × (loaded_at new.bound opened.number ≡ Some (name, text))
 OpensIn said new name (Err (fault.Refused refusal)) = said ≡ Err refusal

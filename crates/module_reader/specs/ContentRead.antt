@@ -6,10 +6,10 @@ use Rattle.content_models.specs.declared.parsing.ContentFault.TheVariants as fau
 use Rattle.content_models.specs.Parses.{occurrences, repeated_in}
 use Rattle.content_models.specs.Proper.{IsProper}
 use Rattle.content_models.specs.Reading.{content_of}
-use Rattle.module_reader.specs.declared.faults.ReadFault.{ReadFault}
-use Rattle.module_reader.specs.declared.faults.ReadFault.TheVariants.{NoMemory as memory}
+use Rattle.module_reader.specs.declared.refusals.Stop.{Stop}
+use Rattle.module_reader.specs.declared.refusals.Stop.TheVariants.{NoMemory as memory}
 use Rattle.module_reader.specs.declared.standing.Standing.{Standing}
-use Rattle.module_reader.specs.Outcomes.{Refuses}
+use Rattle.module_reader.specs.Endings.{Refuses}
 use Rattle.module_reader.specs.Stops.{refused}
 
 -- the text spells a content with so many names
@@ -30,7 +30,7 @@ ReadsContent text (Err (fault.DuplicateMixedName name)) = IsRepeated text name
 ReadsContent text (Err fault.NoMemory) = Unit {0}
 
 -- the refusal of an element whose content has this fault
-abbrev pub ContentStops : Standing → ℕ → List ℕ → ContentFault → ReadFault → Type 0
+abbrev pub ContentStops : Standing → ℕ → List ℕ → ContentFault → Stop → Type 0
 ContentStops c at name fault.GroupTooDeep stop = Refuses (refused c at 44 []) stop
 ContentStops c at name fault.Malformed stop = Refuses (refused c at 20 []) stop
 ContentStops c at name fault.PositionsOver stop = Refuses (refused c at 42 (name ∷ [])) stop

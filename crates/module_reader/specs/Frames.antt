@@ -12,8 +12,8 @@ use Rattle.pe_expansion.specs.Bound.{text_bound}
 use Rattle.module_reader.specs.Moves.{AreChars, loaded_at}
 use Rattle.module_reader.specs.Reading.{Names, Local, item_step, reading, ended, ends_section, section_by, standing_of}
 use Rattle.module_reader.specs.Sources.{Files, Source}
-use Rattle.module_reader.specs.declared.faults.ReadFault.{ReadFault}
-use Rattle.module_reader.specs.declared.faults.ReadFault.TheVariants as fault
+use Rattle.module_reader.specs.declared.refusals.Stop.{Stop}
+use Rattle.module_reader.specs.declared.refusals.Stop.TheVariants as fault
 use Rattle.module_reader.specs.declared.frames.Frame.{Frame}
 use Rattle.module_reader.specs.declared.frames.Start.{Start}
 use Rattle.module_reader.specs.declared.frames.Start.TheVariants.{Included, Ignored}
@@ -108,7 +108,7 @@ abbrev pub Advances : Work → Work → Type 0
 Advances old new = IsSound new × (size_of new < size_of old)
 
 -- a step of the work keeps what it gives, or the refusal is what it gives, unless a load failed or memory ran out
-abbrev pub Stepped : {X : Type 0} → Source → Work → Work → Result X ReadFault → Type 0
+abbrev pub Stepped : {X : Type 0} → Source → Work → Work → Result X Stop → Type 0
 Stepped source old new (Ok x) = left_of source new ≡ left_of source old
 Stepped source old new (Err (fault.Refused refusal)) = left_of source old ≡ Err refusal
 Stepped source old new (Err fault.LoadFailed) = Unit {0}
@@ -147,14 +147,14 @@ end_of Included next = next
 end_of (Ignored end) next = end
 
 -- What the start of a section leads to by its keyword, where the section starts at a place and its start ends at the next.
-abbrev pub Starts : Standing → List ℕ → ℕ → ℕ → List ℕ → Result Start ReadFault → Type 0
+abbrev pub Starts : Standing → List ℕ → ℕ → ℕ → List ℕ → Result Start Stop → Type 0
 Starts c text at next keyword (Ok start) = (l : Local) → section_by c at l (drop at text) (next - at) l.state keyword ≡ Ok (record { state = l.state; sections = with_start start l.sections at }, end_of start next - at)
 Starts c text at next keyword (Err (fault.Refused refusal)) = (l : Local) → section_by c at l (drop at text) (next - at) l.state keyword ≡ Err refusal
 Starts c text at next keyword (Err fault.LoadFailed) = ⊥
 Starts c text at next keyword (Err fault.NoMemory) = Unit {0}
 
 -- a turn of the work: a step that keeps what it gives, or all is done
-abbrev pub Turns : Source → Work → Work → Result Bool ReadFault → Type 0
+abbrev pub Turns : Source → Work → Work → Result Bool Stop → Type 0
 Turns source old new (Ok true) = left_of source new ≡ left_of source old
 Turns source old new (Ok false) = left_of source old ≡ Ok new.state
 Turns source old new (Err (fault.Refused refusal)) = left_of source old ≡ Err refusal
@@ -162,14 +162,14 @@ Turns source old new (Err fault.LoadFailed) = Unit {0}
 Turns source old new (Err fault.NoMemory) = Unit {0}
 
 -- all is done, or the refusal is what the work gives
-abbrev pub Ends : {X : Type 0} → Source → Work → Work → Result X ReadFault → Type 0
+abbrev pub Ends : {X : Type 0} → Source → Work → Work → Result X Stop → Type 0
 Ends source old new (Ok x) = left_of source old ≡ Ok new.state
 Ends source old new (Err (fault.Refused refusal)) = left_of source old ≡ Err refusal
 Ends source old new (Err fault.LoadFailed) = Unit {0}
 Ends source old new (Err fault.NoMemory) = Unit {0}
 
 -- a turn that goes on comes nearer to the end
-abbrev pub Nears : Work → Work → Result Bool ReadFault → Type 0
+abbrev pub Nears : Work → Work → Result Bool Stop → Type 0
 Nears old new (Ok true) = Advances old new
 Nears old new (Ok false) = Unit {0}
 Nears old new (Err fault) = Unit {0}
@@ -186,7 +186,7 @@ pub record Begun (old new : Work) (next : ℕ) (keyword : List ℕ) : Type 0 whe
   pub goes : section_by old.frame.standing old.frame.at (local_of (current old) old.state) (rest_of (current old)) (next - old.frame.at) old.state keyword
       ≡ Ok (record { state = old.state; sections = new.frame.sections.items }, new.frame.at - old.frame.at)
 
-abbrev pub Begins : {X : Type 0} → Work → Work → ℕ → List ℕ → Result X ReadFault → Type 0
+abbrev pub Begins : {X : Type 0} → Work → Work → ℕ → List ℕ → Result X Stop → Type 0
 Begins old new next keyword (Ok x) = Begun old new next keyword
 Begins old new next keyword (Err (fault.Refused refusal)) = section_by old.frame.standing old.frame.at (local_of (current old) old.state) (rest_of (current old)) (next - old.frame.at) old.state keyword ≡ Err refusal
 Begins old new next keyword (Err fault.LoadFailed) = ⊥

@@ -4,6 +4,8 @@ pub mod Sources
 pub mod Reading
 pub mod Sets
 pub mod Outcomes
+pub mod Endings
+pub mod Refused
 pub mod Moves
 pub mod Frames
 pub mod ContentRead

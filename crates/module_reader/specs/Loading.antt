@@ -5,8 +5,8 @@ use Rattle.jats_fault.specs.declared.fault.Fault.{Fault}
 use Rattle.decl_set.specs.Asked.{are_chars}
 use Rattle.dtd_scanner.specs.Walk.{◌>>=◌}
 use Rattle.pe_expansion.specs.Bound.{IsOuter, text_bound}
-use Rattle.module_reader.specs.declared.faults.ReadFault.{ReadFault}
-use Rattle.module_reader.specs.declared.faults.ReadFault.TheVariants as fault
+use Rattle.module_reader.specs.declared.refusals.Stop.{Stop}
+use Rattle.module_reader.specs.declared.refusals.Stop.TheVariants as fault
 use Rattle.module_reader.specs.declared.state.State.{State}
 use Rattle.module_reader.specs.Sources.{Source, given, module_of}
 
@@ -25,7 +25,7 @@ Adds old new name number =
     (text : List ℕ) × (size : ℕ) × (number ≡ length old.modules) × (new ≡ record old { modules = old.modules ++ (name, text) ∷ []; bytes = size }) × IsTrue (are_chars text)
 
 -- the state and the text that are said, the text being that of the module at the number; or the refusal that is said
-abbrev pub LoadsModule : Result (State × List ℕ) Fault → State → List ℕ → Result ℕ ReadFault → Type 0
+abbrev pub LoadsModule : Result (State × List ℕ) Fault → State → List ℕ → Result ℕ Stop → Type 0
 LoadsModule said new name (Ok number) = (text : List ℕ) × (said ≡ Ok (new, text)) × (slice_get new.modules number ≡ Some (name, text))
 LoadsModule said new name (Err (fault.Refused refusal)) = said ≡ Err refusal
 LoadsModule said new name (Err fault.LoadFailed) = Unit {0}
@@ -36,7 +36,7 @@ abbrev pub giving : Source → State → List ℕ → List ℕ → Result State 
 giving source s file name = module_of source s file >>= λ r. Ok (given name r)
 
 -- the file whose text an outer entity is to be given, or that nothing is to be done, or the refusal, as is said of a loading
-abbrev pub NamesFile : Source → Result State Fault → State → List ℕ → Result (Option (List ℕ)) ReadFault → Type 0
+abbrev pub NamesFile : Source → Result State Fault → State → List ℕ → Result (Option (List ℕ)) Stop → Type 0
 NamesFile source said s name (Ok None) = said ≡ Ok s
 NamesFile source said s name (Ok (Some file)) = IsOuter (text_bound s.bound name) × (said ≡ giving source s file name)
 NamesFile source said s name (Err (fault.Refused refusal)) = said ≡ Err refusal

@@ -5,19 +5,19 @@ use Rattle.decl_set.specs.Asked.{are_chars}
 use Rattle.jats_fault.specs.declared.fault.Fault.{Fault}
 use Rattle.pe_expansion.specs.Bound.{Bound, text_in}
 use Rattle.pe_expansion.specs.Expansion.{Written}
-use Rattle.module_reader.specs.declared.faults.ReadFault.{ReadFault}
-use Rattle.module_reader.specs.declared.faults.ReadFault.TheVariants as fault
+use Rattle.module_reader.specs.declared.refusals.Stop.{Stop}
+use Rattle.module_reader.specs.declared.refusals.Stop.TheVariants as fault
 use Rattle.module_reader.specs.declared.state.State.{State}
 
 -- the new state is what is said, or the refusal is, unless a load failed or memory ran out
-abbrev pub Moves : {T : Type 0} → Result State Fault → State → Result T ReadFault → Type 0
+abbrev pub Moves : {T : Type 0} → Result State Fault → State → Result T Stop → Type 0
 Moves said new (Ok x) = said ≡ Ok new
 Moves said new (Err (fault.Refused refusal)) = said ≡ Err refusal
 Moves said new (Err fault.LoadFailed) = Unit {0}
 Moves said new (Err fault.NoMemory) = Unit {0}
 
 -- the same with what the call gives
-abbrev pub Gives : {X : Type 0} → Result (State × X) Fault → State → Result X ReadFault → Type 0
+abbrev pub Gives : {X : Type 0} → Result (State × X) Fault → State → Result X Stop → Type 0
 Gives said new (Ok x) = said ≡ Ok (new, x)
 Gives said new (Err (fault.Refused refusal)) = said ≡ Err refusal
 Gives said new (Err fault.LoadFailed) = Unit {0}

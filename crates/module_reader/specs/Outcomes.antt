@@ -1,5 +1,6 @@
 -- What the calls that read answer.
-use Rattle.std.specs.Prelude.{◌≡◌, Result, Ok, Err}
+use Rattle.std.specs.Prelude.{◌≡◌, IsTrue, Result, Ok, Err}
+use Rattle.jats_fault.specs.Table.{has_number, table}
 use Rattle.jats_fault.specs.declared.fault.Fault.{Fault}
 use Rattle.module_reader.specs.declared.faults.ReadFault.{ReadFault}
 use Rattle.module_reader.specs.declared.faults.ReadFault.TheVariants as fault
@@ -18,15 +19,19 @@ IsAbsence (Err (fault.Refused refusal)) = refusal.number ≡ 10
 IsAbsence (Err fault.LoadFailed) = ⊥
 IsAbsence (Err fault.NoMemory) = ⊥
 
--- this refusal, or want of memory
-abbrev pub Refuses : Fault → ReadFault → Type 0
-Refuses said (fault.Refused refusal) = refusal ≡ said
-Refuses said fault.LoadFailed = ⊥
-Refuses said fault.NoMemory = Unit {0}
-
 -- the answer is the outcome, unless a load failed or memory ran out
 abbrev pub Reads : {T : Type 0} → Result T Fault → Result T ReadFault → Type 0
 Reads outcome (Ok x) = outcome ≡ Ok x
 Reads outcome (Err (fault.Refused refusal)) = outcome ≡ Err refusal
 Reads outcome (Err fault.LoadFailed) = Unit {0}
 Reads outcome (Err fault.NoMemory) = Unit {0}
+
+-- the number of a refusal stands in the table
+abbrev pub StandsInTable : ReadFault → Type 0
+StandsInTable (fault.Refused refusal) = IsTrue (has_number table refusal.number)
+StandsInTable fault.LoadFailed = Unit {0}
+StandsInTable fault.NoMemory = Unit {0}
+
+abbrev pub IsNumbered : {T : Type 0} → Result T ReadFault → Type 0
+IsNumbered (Ok x) = Unit {0}
+IsNumbered (Err fault) = StandsInTable fault

@@ -1,8 +1,6 @@
 -- The set that an entry and a catalog stand for.
-use Rattle.std.specs.Prelude.{ℕ, List, [], length, Option, Some, None, Result, Ok, Err, nat_lt, if◌then◌else◌}
-use Rattle.jats_chars.specs.Decoded.{text_of}
+use Rattle.std.specs.Prelude.{ℕ, List, [], Option, Some, None, Result, Ok, Err}
 use Rattle.jats_fault.specs.declared.fault.Fault.{Fault}
-use Rattle.jats_io.specs.Loads.{held}
 use Rattle.dtd_scanner.specs.Walk.{◌>>=◌}
 use Rattle.entity_catalog.specs.Catalogs.{catalog_of}
 use Rattle.entity_catalog.specs.Named.{Named}
@@ -12,8 +10,8 @@ use Rattle.decl_set.specs.Declaring.{end_fault}
 use Rattle.decl_set.specs.declared.faults.DeclFault.{DeclFault}
 use Rattle.module_reader.specs.declared.state.State.{State}
 use Rattle.module_reader.specs.Reading.{module_read}
-use Rattle.module_reader.specs.Sources.{Files, Source, started, module_of, decoded_by, most_bytes}
-use Rattle.module_reader.specs.Stops.{refusal, module_text, decl_stop, catalog_stop}
+use Rattle.module_reader.specs.Sources.{Files, Source, started, module_of, file_text, most_bytes}
+use Rattle.module_reader.specs.Stops.{module_text, decl_stop, catalog_stop}
 
 -- the set, where the tests after the last declaration find no fault
 abbrev pub finished_by : List ℕ → Declarations → Option DeclFault → Result Declarations Fault
@@ -34,15 +32,10 @@ abbrev pub named_by : List ℕ → Result Named CatalogFault → Result Named Fa
 named_by place (Ok named) = Ok named
 named_by place (Err fault) = Err (catalog_stop place fault)
 
-abbrev pub catalog_held : List ℕ → Option (List ℕ) → Result Named Fault
-catalog_held place None = Err (refusal 10 place 0 [])
-catalog_held place (Some bytes) =
-    if nat_lt most_bytes (length bytes) then Err (refusal 11 place 0 []) else decoded_by place (λ text. named_by place (catalog_of place text)) (text_of bytes)
-
 -- the catalog of a file; without a file it names nothing
 unfoldable pub catalog_from : Files → Option (List ℕ) → Result Named Fault
 catalog_from files None = Ok (record { systems = []; publics = [] })
-catalog_from files (Some place) = catalog_held place (held files place)
+catalog_from files (Some place) = file_text most_bytes files place >>= λ text. named_by place (catalog_of place text)
 
 -- the set that an entry stands for, with the catalog of a file, or the first refusal
 abbrev pub set_of : Files → Option (List ℕ) → List ℕ → Result Declarations Fault

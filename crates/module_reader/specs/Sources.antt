@@ -48,6 +48,15 @@ abbrev pub decoded_by : {X : Type 0} → List ℕ → (List ℕ → Result X Fau
 decoded_by name give (Ok text) = give text
 decoded_by name give (Err fault) = Err (decode_stop name fault)
 
+-- what is held of a file, whose bytes may be no more than this
+abbrev pub text_held : ℕ → List ℕ → Option (List ℕ) → Result (List ℕ) Fault
+text_held limit name None = Err (refusal 10 name 0 [])
+text_held limit name (Some bytes) = if nat_lt limit (length bytes) then Err (refusal 11 name 0 []) else decoded_by name (λ text. Ok text) (text_of bytes)
+
+-- the text of a file, or why it is none
+unfoldable pub file_text : ℕ → Files → List ℕ → Result (List ℕ) Fault
+file_text limit files name = text_held limit name (held files name)
+
 -- the module goes last, with the count of bytes
 abbrev pub with_module : State → List ℕ → ℕ → List ℕ → Result (State × List ℕ) Fault
 with_module s name size text = Ok (record s { modules = s.modules ++ (name, text) ∷ []; bytes = s.bytes + size }, text)

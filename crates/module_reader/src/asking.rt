@@ -6,16 +6,16 @@ ghost use Rattle.jats_io.specs.Causes.{HasCause};
 ghost use Rattle.pe_expansion.specs.Opening as opening;
 ghost use Rattle.pe_expansion.specs.Outcomes.{Expands};
 ghost use Rattle.pe_expansion.specs.declared.faults.PeFault.TheVariants as pe;
-ghost use Rattle.module_reader.specs.declared.faults.ReadFault.TheVariants as memory;
+ghost use Rattle.module_reader.specs.declared.refusals.Stop.TheVariants as memory;
 ghost use Rattle.module_reader.specs.Asking.{HasText, IsOpened, IsWanted, IsWritten, OpensIn, OpensOnce, Turns, WritesOnce, stopped, written};
 ghost use Rattle.module_reader.specs.Counting.{Counts};
 ghost use Rattle.module_reader.specs.Moves.{GoesOn, Gives, Moves, StaysOfChars, counted};
-ghost use Rattle.module_reader.specs.Outcomes.{LoadFailed, IsAbsence};
+ghost use Rattle.module_reader.specs.Endings.{LoadFailed, IsAbsence};
 ghost use Rattle.module_reader.specs.Reading as reading;
 ghost use Rattle.module_reader.specs.Sources.{asking};
 
-use crate::ReadFault;
 use crate::loading::load_outer;
+use crate::refusals::Stop;
 use crate::standing::Standing;
 use crate::state::State;
 use crate::stops::{pe_stop, refused};
@@ -42,7 +42,7 @@ fn want<S: Store>(
     at: usize,
     state: &mut State,
     fault: PeFault,
-) -> Result<(), ReadFault>
+) -> Result<(), Stop>
     requires wanted { IsWanted state.old.bound fault }
     ensures keeps { S.holds store.new ≡ S.holds store.old }
     ensures faults { HasCause (S.faults store.old) (S.faults store.new) (LoadFailed result) }
@@ -103,7 +103,7 @@ fn write_turn<S: Store>(
     state: &mut State,
     form: Form,
     text: &[char],
-) -> Result<Option<Text>, ReadFault>
+) -> Result<Option<Text>, Stop>
     ensures keeps { S.holds store.new ≡ S.holds store.old }
     ensures faults { HasCause (S.faults store.old) (S.faults store.new) (LoadFailed result) }
     ensures absences { HasCause (S.absences store.old) (S.absences store.new) (IsAbsence result) }
@@ -131,7 +131,7 @@ fn write<S: Store>(
     state: &mut State,
     form: Form,
     text: &[char],
-) -> Result<Text, ReadFault>
+) -> Result<Text, Stop>
     ensures keeps { S.holds store.new ≡ S.holds store.old }
     ensures faults { HasCause (S.faults store.old) (S.faults store.new) (LoadFailed result) }
     ensures absences { HasCause (S.absences store.old) (S.absences store.new) (IsAbsence result) }
@@ -184,7 +184,7 @@ fn open_turn<S: Store>(
     at: usize,
     state: &mut State,
     name: &[char],
-) -> Result<Option<Opened>, ReadFault>
+) -> Result<Option<Opened>, Stop>
     requires { IsTrue (is_name name.now) }
     ensures keeps { S.holds store.new ≡ S.holds store.old }
     ensures faults { HasCause (S.faults store.old) (S.faults store.new) (LoadFailed result) }
@@ -213,7 +213,7 @@ pub fn expand_body<S: Store>(
     at: usize,
     state: &mut State,
     body: &[char],
-) -> Result<Text, ReadFault>
+) -> Result<Text, Stop>
     ensures keeps { S.holds store.new ≡ S.holds store.old }
     ensures faults { HasCause (S.faults store.old) (S.faults store.new) (LoadFailed result) }
     ensures absences { HasCause (S.absences store.old) (S.absences store.new) (IsAbsence result) }
@@ -245,7 +245,7 @@ pub fn expand_literal<S: Store>(
     at: usize,
     state: &mut State,
     quoted: &[char],
-) -> Result<Text, ReadFault>
+) -> Result<Text, Stop>
     ensures keeps { S.holds store.new ≡ S.holds store.old }
     ensures faults { HasCause (S.faults store.old) (S.faults store.new) (LoadFailed result) }
     ensures absences { HasCause (S.absences store.old) (S.absences store.new) (IsAbsence result) }
@@ -277,7 +277,7 @@ pub fn open_entity<S: Store>(
     at: usize,
     state: &mut State,
     name: &[char],
-) -> Result<Opened, ReadFault>
+) -> Result<Opened, Stop>
     requires { IsTrue (is_name name.now) }
     ensures keeps { S.holds store.new ≡ S.holds store.old }
     ensures faults { HasCause (S.faults store.old) (S.faults store.new) (LoadFailed result) }

@@ -4,15 +4,16 @@ ghost use Rattle.std.specs.Prelude.{◌≡◌, ◌∷◌, [], ℕ, nat_lt, false
 ghost use Rattle.content_models.specs.Parses.{most_open};
 ghost use Rattle.content_models.specs.Proper.{IsProper};
 ghost use Rattle.content_models.specs.Reading.{content_of};
+ghost use Rattle.jats_fault.specs.Table.{has_number, table};
 ghost use Rattle.decl_set.specs.Asked.{IsRead, are_chars, are_ids};
 ghost use Rattle.decl_set.specs.Declaring.{with_element, with_attributes, with_notation};
 ghost use Rattle.module_reader.specs.ContentRead.{ReadsContent, ContentStops};
 ghost use Rattle.module_reader.specs.Moves.{Moves, GoesOn};
-ghost use Rattle.module_reader.specs.Outcomes.{LoadFailed, IsAbsence, Refuses};
+ghost use Rattle.module_reader.specs.Endings.{LoadFailed, IsAbsence, Refuses};
 ghost use Rattle.module_reader.specs.Reading as spec;
 ghost use Rattle.module_reader.specs.Stops as stops;
 
-use crate::ReadFault;
+use crate::refusals::Stop;
 use crate::standing::Standing;
 use crate::state::State;
 use crate::stops::{decl_stop, refused};
@@ -35,18 +36,20 @@ fn read_content(alloc: Global, text: &Text) -> Result<Content, ContentFault>
     parse_content(alloc, text)
 }
 
-fn no_details(alloc: Global, standing: &Standing, at: usize, number: u16) -> ReadFault
+fn no_details(alloc: Global, standing: &Standing, at: usize, number: u16) -> Stop
+    requires { IsTrue (has_number table number) }
     ensures { Refuses (stops.refused standing.now at number []) result }
 {
     refused(alloc, standing, at, number, Details::new(alloc))
 }
 
 /// A refusal that names an element.
-fn naming(alloc: Global, standing: &Standing, at: usize, number: u16, name: &Name) -> ReadFault
+fn naming(alloc: Global, standing: &Standing, at: usize, number: u16, name: &Name) -> Stop
+    requires { IsTrue (has_number table number) }
     ensures { Refuses (stops.refused standing.now at number (name.now ∷ [])) result }
 {
     match name.text().copy(alloc) {
-        Err(_) => ReadFault::NoMemory,
+        Err(_) => Stop::NoMemory,
         Ok(name) => {
             let mut details = Details::new(alloc);
             details.add(name);
@@ -56,14 +59,14 @@ fn naming(alloc: Global, standing: &Standing, at: usize, number: u16, name: &Nam
 }
 
 /// The refusal of a name that stands twice in the content of an element.
-fn repeating(alloc: Global, standing: &Standing, at: usize, name: &Name, again: &Name) -> ReadFault
+fn repeating(alloc: Global, standing: &Standing, at: usize, name: &Name, again: &Name) -> Stop
     ensures { Refuses (stops.refused standing.now at 31 (name.now ∷ again.now ∷ [])) result }
 {
     let Ok(name) = name.text().copy(alloc) else {
-        return ReadFault::NoMemory;
+        return Stop::NoMemory;
     };
     let Ok(again) = again.text().copy(alloc) else {
-        return ReadFault::NoMemory;
+        return Stop::NoMemory;
     };
     let mut details = Details::new(alloc);
     details.add(name);
@@ -78,7 +81,7 @@ fn content_stop(
     at: usize,
     name: &Name,
     fault: ContentFault,
-) -> ReadFault
+) -> Stop
     ensures { ContentStops standing.now at name.now fault result }
 {
     match fault {
@@ -86,7 +89,7 @@ fn content_stop(
         ContentFault::Malformed => no_details(alloc, standing, at, 20),
         ContentFault::PositionsOver => naming(alloc, standing, at, 42, name),
         ContentFault::DuplicateMixedName(again) => repeating(alloc, standing, at, name, &again),
-        ContentFault::NoMemory => ReadFault::NoMemory,
+        ContentFault::NoMemory => Stop::NoMemory,
     }
 }
 
@@ -98,7 +101,7 @@ fn declare_read(
     state: &mut State,
     name: Name,
     text: &Text,
-) -> Result<(), ReadFault>
+) -> Result<(), Stop>
     requires { nat_lt 64 (most_open 0 text.now) ≡ false }
     ensures told { Moves (spec.element_spelled standing.now at state.old name (content_of text.now)) state.new result }
     ensures load { LoadFailed result → ⊥ }
@@ -120,7 +123,7 @@ fn put_element(
     state: &mut State,
     name: Name,
     content: Content,
-) -> Result<(), ReadFault>
+) -> Result<(), Stop>
     requires { IsProper content }
     ensures told { Moves (spec.declares standing.now at state.old (with_element state.old.set name content)) state.new result }
     ensures load { LoadFailed result → ⊥ }
@@ -129,7 +132,7 @@ fn put_element(
 {
     match state.set.declare_element(name, content) {
         Ok(()) => Ok(()),
-        Err(DeclFault::NoMemory) => Err(ReadFault::NoMemory),
+        Err(DeclFault::NoMemory) => Err(Stop::NoMemory),
         Err(fault) => Err(decl_stop(alloc, standing, at, fault)),
     }
 }
@@ -143,7 +146,7 @@ pub fn declare_element(
     at: usize,
     state: &mut State,
     body: &Text,
-) -> Result<(), ReadFault>
+) -> Result<(), Stop>
     ensures told { Moves (spec.element_declared standing.now at state.old body.now) state.new result }
     ensures load { LoadFailed result → ⊥ }
     ensures absence { IsAbsence result → ⊥ }
@@ -166,7 +169,7 @@ fn put_attributes(
     at: usize,
     state: &mut State,
     raw: &RawAttList,
-) -> Result<(), ReadFault>
+) -> Result<(), Stop>
     requires { IsRead raw.now }
     ensures told { Moves (spec.counting standing.now at state.old (with_attributes state.old.set state.old.spent raw.now)) state.new result }
     ensures load { LoadFailed result → ⊥ }
@@ -179,7 +182,7 @@ fn put_attributes(
             state.spent = budget.spent;
             Ok(())
         }
-        Err(DeclFault::NoMemory) => Err(ReadFault::NoMemory),
+        Err(DeclFault::NoMemory) => Err(Stop::NoMemory),
         Err(fault) => Err(decl_stop(alloc, standing, at, fault)),
     }
 }
@@ -193,7 +196,7 @@ pub fn declare_attributes(
     at: usize,
     state: &mut State,
     body: &Text,
-) -> Result<(), ReadFault>
+) -> Result<(), Stop>
     requires { IsTrue (are_chars body.now) }
     ensures told { Moves (spec.attributes_declared standing.now at state.old body.now) state.new result }
     ensures load { LoadFailed result → ⊥ }
@@ -201,7 +204,7 @@ pub fn declare_attributes(
     ensures goes_on { OnOk result (GoesOn state.old state.new) }
 {
     match parse_attlist(alloc, body) {
-        Err(ListFault::NoMemory) => Err(ReadFault::NoMemory),
+        Err(ListFault::NoMemory) => Err(Stop::NoMemory),
         Err(ListFault::Malformed) => Err(no_details(alloc, standing, at, 20)),
         Ok(raw) => put_attributes(alloc, standing, at, state, &raw),
     }
@@ -216,7 +219,7 @@ fn put_notation(
     state: &mut State,
     name: Name,
     ids: Ids,
-) -> Result<(), ReadFault>
+) -> Result<(), Stop>
     requires { IsTrue (are_ids ids) }
     ensures told { Moves (spec.declares standing.now at state.old (with_notation state.old.set name ids)) state.new result }
     ensures load { LoadFailed result → ⊥ }
@@ -225,7 +228,7 @@ fn put_notation(
 {
     match state.set.declare_notation(name, ids) {
         Ok(()) => Ok(()),
-        Err(DeclFault::NoMemory) => Err(ReadFault::NoMemory),
+        Err(DeclFault::NoMemory) => Err(Stop::NoMemory),
         Err(fault) => Err(decl_stop(alloc, standing, at, fault)),
     }
 }
@@ -238,7 +241,7 @@ pub fn declare_notation(
     at: usize,
     state: &mut State,
     body: &Text,
-) -> Result<(), ReadFault>
+) -> Result<(), Stop>
     requires { IsTrue (are_chars body.now) }
     ensures told { Moves (spec.notation_declared standing.now at state.old body.now) state.new result }
     ensures load { LoadFailed result → ⊥ }

@@ -1,17 +1,17 @@
 //! What the declarations of entities do to a reading, once their bodies are expanded.
 
-ghost use Rattle.std.specs.Prelude.{◌≡◌, IfSome, OnOk, Ok, IsTrue, None, Some, true, false};
+ghost use Rattle.std.specs.Prelude.{◌≡◌, IfSome, OnOk, Ok, IsTrue, None, Some, true, false, is_some};
 ghost use Rattle.decl_set.specs.Asked.{are_chars, are_entity_ids, is_entity};
 ghost use Rattle.decl_set.specs.Declarations.{entity_in};
 ghost use Rattle.jats_io.specs.Causes.{HasCause};
-ghost use Rattle.pe_expansion.specs.Bound.{text_in};
+ghost use Rattle.pe_expansion.specs.Bound.{text_bound, text_in};
 ghost use Rattle.module_reader.specs.Moves.{AreChars, Moves, GoesOn, has_chars};
 ghost use Rattle.module_reader.specs.OfChars.{IsOfChars};
-ghost use Rattle.module_reader.specs.Outcomes.{LoadFailed, IsAbsence};
+ghost use Rattle.module_reader.specs.Endings.{LoadFailed, IsAbsence};
 ghost use Rattle.module_reader.specs.Reading as spec;
 
-use crate::ReadFault;
 use crate::asking::expand_literal;
+use crate::refusals::Stop;
 use crate::standing::Standing;
 use crate::state::State;
 use crate::stops::refused;
@@ -26,7 +26,7 @@ use std::alloc::Global;
 
 /// Binds a name that is new. The first declaration binds.
 #[tactic(auto, using(crate::proofs::Growing::binds_on))]
-fn bind(state: &mut State, name: Name, text: PeText) -> Result<(), ReadFault>
+fn bind(state: &mut State, name: Name, text: PeText) -> Result<(), Stop>
     requires chars { IsTrue (has_chars (text_in text)) }
     ensures told { Moves (Ok (spec.bound_as state.old name text)) state.new result }
     ensures load { LoadFailed result → ⊥ }
@@ -35,7 +35,7 @@ fn bind(state: &mut State, name: Name, text: PeText) -> Result<(), ReadFault>
 {
     match state.bound.bind(name, text) {
         Ok(_) => Ok(()),
-        Err(_) => Err(ReadFault::NoMemory),
+        Err(_) => Err(Stop::NoMemory),
     }
 }
 
@@ -50,7 +50,7 @@ fn bind_value<S: Store>(
     state: &mut State,
     name: Name,
     raw: &Text,
-) -> Result<(), ReadFault>
+) -> Result<(), Stop>
     requires chars { IsTrue (are_chars raw.now) }
     requires kept { AreChars state.old }
     ensures keeps { S.holds store.new ≡ S.holds store.old }
@@ -81,7 +81,7 @@ fn bind_outer(
     state: &mut State,
     name: Name,
     ids: Ids,
-) -> Result<(), ReadFault>
+) -> Result<(), Stop>
     ensures told { Moves (Ok (spec.bound_as state.old name (PeText.Outer ids standing.now.inmost None))) state.new result }
     ensures load { LoadFailed result → ⊥ }
     ensures absence { IsAbsence result → ⊥ }
@@ -110,7 +110,7 @@ fn bind_entity<S: Store>(
     state: &mut State,
     name: Name,
     def: RawDef,
-) -> Result<(), ReadFault>
+) -> Result<(), Stop>
     requires chars { IsOfChars def }
     requires kept { AreChars state.old }
     ensures keeps { S.holds store.new ≡ S.holds store.old }
@@ -130,7 +130,7 @@ fn bind_entity<S: Store>(
 
 /// Declares a general entity.
 #[tactic(auto, using(crate::proofs::Growing::set_on))]
-fn put(state: &mut State, name: Name, def: EntityDef) -> Result<(), ReadFault>
+fn put(state: &mut State, name: Name, def: EntityDef) -> Result<(), Stop>
     requires { IsTrue (is_entity def) }
     ensures told { Moves (Ok (spec.declared_as state.old name def)) state.new result }
     ensures load { LoadFailed result → ⊥ }
@@ -139,7 +139,7 @@ fn put(state: &mut State, name: Name, def: EntityDef) -> Result<(), ReadFault>
 {
     match state.set.declare_entity(name, def) {
         Ok(_) => Ok(()),
-        Err(_) => Err(ReadFault::NoMemory),
+        Err(_) => Err(Stop::NoMemory),
     }
 }
 
@@ -154,7 +154,7 @@ fn put_value<S: Store>(
     state: &mut State,
     name: Name,
     raw: &Text,
-) -> Result<(), ReadFault>
+) -> Result<(), Stop>
     requires chars { IsTrue (are_chars raw.now) }
     requires kept { AreChars state.old }
     ensures keeps { S.holds store.new ≡ S.holds store.old }
@@ -189,7 +189,7 @@ fn put_entity<S: Store>(
     state: &mut State,
     name: Name,
     def: RawDef,
-) -> Result<(), ReadFault>
+) -> Result<(), Stop>
     requires chars { IsOfChars def }
     requires kept { AreChars state.old }
     ensures keeps { S.holds store.new ≡ S.holds store.old }
@@ -207,6 +207,18 @@ fn put_entity<S: Store>(
     }
 }
 
+fn is_bound(state: &State, name: &Name) -> bool
+    ensures { result ≡ is_some (text_bound state.now.bound name.now) }
+{
+    state.bound.text_of(name).is_some()
+}
+
+fn is_declared(state: &State, name: &Name) -> bool
+    ensures { result ≡ is_some (entity_in state.now.set name.now) }
+{
+    state.set.entity_of(name).is_some()
+}
+
 /// Binds or declares an entity that is read, where its name is new.
 fn declare_read<S: Store>(
     alloc: Global,
@@ -217,7 +229,7 @@ fn declare_read<S: Store>(
     at: usize,
     state: &mut State,
     entity: RawEntity,
-) -> Result<(), ReadFault>
+) -> Result<(), Stop>
     requires chars { IsOfChars entity.def }
     requires kept { AreChars state.old }
     ensures keeps { S.holds store.new ≡ S.holds store.old }
@@ -232,12 +244,12 @@ fn declare_read<S: Store>(
         def,
     } = entity;
     if parameter {
-        if state.bound.text_of(&name).is_some() {
+        if is_bound(state, &name) {
             return Ok(());
         }
         return bind_entity(alloc, store, catalog, chain, standing, at, state, name, def);
     }
-    if state.set.entity_of(&name).is_some() {
+    if is_declared(state, &name) {
         return Ok(());
     }
     put_entity(alloc, store, catalog, chain, standing, at, state, name, def)
@@ -255,7 +267,7 @@ pub fn declare_entity<S: Store>(
     at: usize,
     state: &mut State,
     body: &Text,
-) -> Result<(), ReadFault>
+) -> Result<(), Stop>
     requires chars { IsTrue (are_chars body.now) }
     requires kept { AreChars state.old }
     ensures keeps { S.holds store.new ≡ S.holds store.old }

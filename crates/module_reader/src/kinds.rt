@@ -4,13 +4,13 @@ ghost use Rattle.std.specs.Prelude.{◌≡◌, IfSome, IsTrue, OnOk};
 ghost use Rattle.decl_set.specs.Asked.{are_chars};
 ghost use Rattle.jats_io.specs.Causes.{HasCause};
 ghost use Rattle.module_reader.specs.Moves.{AreChars, GoesOn, Moves};
-ghost use Rattle.module_reader.specs.Outcomes.{LoadFailed, IsAbsence};
+ghost use Rattle.module_reader.specs.Endings.{LoadFailed, IsAbsence};
 ghost use Rattle.module_reader.specs.Reading as spec;
 
-use crate::ReadFault;
 use crate::asking::expand_body;
 use crate::declaring::{declare_attributes, declare_element, declare_notation};
 use crate::entities::declare_entity;
+use crate::refusals::Stop;
 use crate::standing::Standing;
 use crate::state::State;
 use dtd_scanner::ItemKind;
@@ -30,7 +30,7 @@ fn declare<S: Store>(
     kind: ItemKind,
     state: &mut State,
     body: &Text,
-) -> Result<(), ReadFault>
+) -> Result<(), Stop>
     requires chars { IsTrue (are_chars body.now) }
     requires kept { AreChars state.old }
     ensures keeps { S.holds store.new ≡ S.holds store.old }
@@ -65,7 +65,7 @@ pub fn declare_expanded<S: Store>(
     kind: ItemKind,
     state: &mut State,
     body: &[char],
-) -> Result<(), ReadFault>
+) -> Result<(), Stop>
     requires chars { IsTrue (are_chars body.now) }
     requires kept { AreChars state.old }
     ensures keeps { S.holds store.new ≡ S.holds store.old }

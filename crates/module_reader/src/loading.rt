@@ -11,11 +11,11 @@ ghost use Rattle.jats_io.specs.Causes.{HasCause};
 ghost use Rattle.pe_expansion.specs.Bound.{IsOuter, text_bound, text_in};
 ghost use Rattle.module_reader.specs.Loading.{Adds, FindsModule, LoadsModule, IsModule, NamesFile, giving};
 ghost use Rattle.module_reader.specs.Moves.{GoesOn, Moves};
-ghost use Rattle.module_reader.specs.Outcomes.{LoadFailed, IsAbsence, Reads, Refuses};
+ghost use Rattle.module_reader.specs.Endings.{LoadFailed, IsAbsence, Reads, Refuses};
 ghost use Rattle.module_reader.specs.Sources as spec;
 ghost use Rattle.module_reader.specs.Stops.{refused as refused_at};
 
-use crate::ReadFault;
+use crate::refusals::Stop;
 use crate::standing::Standing;
 use crate::state::{Modules, State};
 use crate::stops::{decode_stop, refusal, refused};
@@ -75,7 +75,7 @@ impl Modules {
 
 /// The text of the bytes of a file.
 #[tactic(auto, using(crate::proofs::DecodedChars::decoded_chars))]
-pub fn decoded(alloc: Global, name: &Text, bytes: &[u8]) -> Result<Text, ReadFault>
+pub fn decoded(alloc: Global, name: &Text, bytes: &[u8]) -> Result<Text, Stop>
     ensures told { Reads (spec.decoded_by name.now (λ t. Ok t) (text_of bytes.now)) result }
     ensures chars { IfOk result (λ t. IsTrue (are_chars t)) }
     ensures load { LoadFailed result → ⊥ }
@@ -114,12 +114,7 @@ fn keep_module(
 }
 
 /// Appends the module of these bytes.
-fn add_module(
-    alloc: Global,
-    state: &mut State,
-    name: &Text,
-    bytes: &[u8],
-) -> Result<usize, ReadFault>
+fn add_module(alloc: Global, state: &mut State, name: &Text, bytes: &[u8]) -> Result<usize, Stop>
     requires new { lookup (bytes_eq name.now) state.old.modules ≡ None }
     ensures told { LoadsModule (spec.measured state.old name.now bytes.now) state.new name.now result }
     ensures adds { IfOk result (λ k. Adds state.old state.new name.now k) }
@@ -135,7 +130,7 @@ fn add_module(
     match decoded(alloc, name, bytes) {
         Err(fault) => Err(fault),
         Ok(text) => match keep_module(alloc, state, name, bytes.len(), text) {
-            Err(_) => Err(ReadFault::NoMemory),
+            Err(_) => Err(Stop::NoMemory),
             Ok(number) => Ok(number),
         },
     }
@@ -148,7 +143,7 @@ fn load_new<S: Store>(
     store: &mut S,
     state: &mut State,
     name: &Text,
-) -> Result<usize, ReadFault>
+) -> Result<usize, Stop>
     requires new { lookup (bytes_eq name.now) state.old.modules ≡ None }
     ensures keeps { S.holds store.new ≡ S.holds store.old }
     ensures faults { HasCause (S.faults store.old) (S.faults store.new) (LoadFailed result) }
@@ -160,8 +155,8 @@ fn load_new<S: Store>(
         return Err(refusal(alloc, 12, name, 0, Details::new(alloc)));
     }
     match store.load(alloc, name, MOST_BYTES) {
-        Err(LoadFault::Failed) => Err(ReadFault::LoadFailed),
-        Err(LoadFault::NoMemory) => Err(ReadFault::NoMemory),
+        Err(LoadFault::Failed) => Err(Stop::LoadFailed),
+        Err(LoadFault::NoMemory) => Err(Stop::NoMemory),
         Ok(Loaded::Absent) => Err(refusal(alloc, 10, name, 0, Details::new(alloc))),
         Ok(Loaded::Bytes(bytes)) => add_module(alloc, state, name, bytes.as_slice()),
     }
@@ -173,7 +168,7 @@ pub fn load_module<S: Store>(
     store: &mut S,
     state: &mut State,
     name: &Text,
-) -> Result<usize, ReadFault>
+) -> Result<usize, Stop>
     ensures keeps { S.holds store.new ≡ S.holds store.old }
     ensures faults { HasCause (S.faults store.old) (S.faults store.new) (LoadFailed result) }
     ensures absences { HasCause (S.absences store.old) (S.absences store.new) (IsAbsence result) }
@@ -201,11 +196,11 @@ fn system_of(alloc: Global, ids: &Ids) -> Result<Text, NoMemory>
 }
 
 /// The refusal of an identifier that leaves the folder.
-fn escapes(alloc: Global, standing: &Standing, at: usize, ids: &Ids) -> ReadFault
+fn escapes(alloc: Global, standing: &Standing, at: usize, ids: &Ids) -> Stop
     ensures { Refuses (refused_at standing.now at 51 (spec.system_of ids.now ∷ [])) result }
 {
     match system_of(alloc, ids) {
-        Err(_) => ReadFault::NoMemory,
+        Err(_) => Stop::NoMemory,
         Ok(system) => {
             let mut details = Details::new(alloc);
             details.add(system);
@@ -242,7 +237,7 @@ fn file_wanted(
     at: usize,
     state: &State,
     name: &Name,
-) -> Result<Option<Text>, ReadFault>
+) -> Result<Option<Text>, Stop>
     ensures told { (files : spec.Files) → NamesFile (record { files = files; catalog = catalog.now }) (spec.loaded (record { files = files; catalog = catalog.now }) standing.now at state.now name.now) state.now name.now result }
     ensures load { LoadFailed result → ⊥ }
     ensures absence { IsAbsence result → ⊥ }
@@ -251,7 +246,7 @@ fn file_wanted(
         None => Ok(None),
         Some(PeText::Inner(_)) => Ok(None),
         Some(PeText::Outer { ids, base, .. }) => match file_of(alloc, catalog, base, ids) {
-            Err(_) => Err(ReadFault::NoMemory),
+            Err(_) => Err(Stop::NoMemory),
             Ok(None) => Err(escapes(alloc, standing, at, ids)),
             Ok(Some(file)) => Ok(Some(file)),
         },
@@ -281,7 +276,7 @@ fn load_file<S: Store>(
     state: &mut State,
     file: &Text,
     name: &Name,
-) -> Result<(), ReadFault>
+) -> Result<(), Stop>
     requires outer { IsOuter (text_bound state.old.bound name.now) }
     requires wanted { option_and_then text_in (text_bound state.old.bound name.now) ≡ None }
     ensures keeps { S.holds store.new ≡ S.holds store.old }
@@ -293,7 +288,7 @@ fn load_file<S: Store>(
     match load_module(alloc, store, state, file) {
         Err(fault) => Err(fault),
         Ok(number) => match give_text(alloc, state, number, name) {
-            Err(_) => Err(ReadFault::NoMemory),
+            Err(_) => Err(Stop::NoMemory),
             Ok(()) => Ok(()),
         },
     }
@@ -309,7 +304,7 @@ pub fn load_outer<S: Store>(
     at: usize,
     state: &mut State,
     name: &Name,
-) -> Result<(), ReadFault>
+) -> Result<(), Stop>
     requires wanted { option_and_then text_in (text_bound state.old.bound name.now) ≡ None }
     ensures keeps { S.holds store.new ≡ S.holds store.old }
     ensures faults { HasCause (S.faults store.old) (S.faults store.new) (LoadFailed result) }

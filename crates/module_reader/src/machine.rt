@@ -5,12 +5,12 @@ ghost use Rattle.dtd_scanner.specs.Items.{shortest};
 ghost use Rattle.jats_io.specs.Causes.{HasCause};
 ghost use Rattle.module_reader.specs.Frames.{Advances, Ends, IsSound, Nears, Stands, Stepped, Turns, current, from, text_found};
 ghost use Rattle.module_reader.specs.Moves.{AreChars};
-ghost use Rattle.module_reader.specs.Outcomes.{LoadFailed, IsAbsence, Reads, Refuses};
+ghost use Rattle.module_reader.specs.Endings.{LoadFailed, IsAbsence, Reads, Refuses};
 ghost use Rattle.module_reader.specs.Reading as spec;
 
-use crate::ReadFault;
 use crate::frames::{Frame, Work};
 use crate::passing::{pass_declaration, pass_reference, pass_section};
+use crate::refusals::Stop;
 use crate::standing::Standing;
 use crate::state::State;
 use crate::steps::{close_section, finish_text, skip};
@@ -24,7 +24,7 @@ use jats_io::Store;
 use std::alloc::Global;
 
 /// Why no item stands at a place of a text.
-fn scan_stop(alloc: Global, standing: &Standing, at: usize, fault: ScanFault) -> ReadFault
+fn scan_stop(alloc: Global, standing: &Standing, at: usize, fault: ScanFault) -> Stop
     ensures { Refuses (spec.scan_stop standing.now at fault) result }
 {
     match fault {
@@ -41,7 +41,7 @@ fn pass<S: Store>(
     work: &mut Work,
     kind: ItemKind,
     next: usize,
-) -> Result<(), ReadFault>
+) -> Result<(), Stop>
     requires sound { IsSound work.old }
     requires stands { Stands (current work.old) kind next }
     requires long { work.old.frame.at + shortest kind ≤ next }
@@ -70,7 +70,7 @@ fn step<S: Store>(
     store: &mut S,
     catalog: &Catalog,
     work: &mut Work,
-) -> Result<(), ReadFault>
+) -> Result<(), Stop>
     requires sound { IsSound work.old }
     requires here { work.old.frame.at < length (current work.old).text }
     ensures keeps { S.holds store.new ≡ S.holds store.old }
@@ -95,7 +95,7 @@ fn turn<S: Store>(
     store: &mut S,
     catalog: &Catalog,
     work: &mut Work,
-) -> Result<bool, ReadFault>
+) -> Result<bool, Stop>
     requires { IsSound work.old }
     ensures keeps { S.holds store.new ≡ S.holds store.old }
     ensures faults { HasCause (S.faults store.old) (S.faults store.new) (LoadFailed result) }
@@ -119,7 +119,7 @@ fn run<S: Store>(
     store: &mut S,
     catalog: &Catalog,
     work: &mut Work,
-) -> Result<(), ReadFault>
+) -> Result<(), Stop>
     requires { IsSound work.old }
     ensures keeps { S.holds store.new ≡ S.holds store.old }
     ensures faults { HasCause (S.faults store.old) (S.faults store.new) (LoadFailed result) }
@@ -143,7 +143,7 @@ pub fn read_text<S: Store>(
     catalog: &Catalog,
     state: State,
     standing: Standing,
-) -> Result<State, ReadFault>
+) -> Result<State, Stop>
     requires entry { IsSome (slice_get state.modules 0) }
     requires chars { AreChars state }
     ensures keeps { S.holds store.new ≡ S.holds store.old }

@@ -5,13 +5,13 @@ ghost use Rattle.dtd_scanner.specs.Items.{shortest};
 ghost use Rattle.dtd_scanner.specs.declared.item.ItemKind.TheVariants.{Reference, SectionStart};
 ghost use Rattle.jats_io.specs.Causes.{HasCause};
 ghost use Rattle.module_reader.specs.Frames.{Advances, IsSound, Stands, Stepped, current, is_declaration};
-ghost use Rattle.module_reader.specs.Outcomes.{LoadFailed, IsAbsence};
+ghost use Rattle.module_reader.specs.Endings.{LoadFailed, IsAbsence};
 
-use crate::ReadFault;
 use crate::asking::{expand_body, open_entity};
 use crate::frames::Work;
 use crate::kinds::declare_expanded;
 use crate::openings::enter;
+use crate::refusals::Stop;
 use crate::sections::begin_section;
 use crate::texts::{contents_here, name_here};
 use dtd_scanner::ItemKind;
@@ -27,7 +27,7 @@ pub fn pass_declaration<S: Store>(
     work: &mut Work,
     kind: ItemKind,
     next: usize,
-) -> Result<(), ReadFault>
+) -> Result<(), Stop>
     requires sound { IsSound work.old }
     requires declares { is_declaration kind ≡ true }
     requires stands { Stands (current work.old) kind next }
@@ -66,7 +66,7 @@ pub fn pass_section<S: Store>(
     catalog: &Catalog,
     work: &mut Work,
     next: usize,
-) -> Result<(), ReadFault>
+) -> Result<(), Stop>
     requires sound { IsSound work.old }
     requires stands { Stands (current work.old) SectionStart next }
     requires long { work.old.frame.at + 4 ≤ next }
@@ -100,7 +100,7 @@ pub fn pass_reference<S: Store>(
     catalog: &Catalog,
     work: &mut Work,
     next: usize,
-) -> Result<(), ReadFault>
+) -> Result<(), Stop>
     requires sound { IsSound work.old }
     requires stands { Stands (current work.old) Reference next }
     requires long { work.old.frame.at + 3 ≤ next }
@@ -124,7 +124,7 @@ pub fn pass_reference<S: Store>(
     ) {
         Err(fault) => Err(fault),
         Ok(opened) => match enter(alloc, catalog, work, next, name, opened.number) {
-            Err(_) => Err(ReadFault::NoMemory),
+            Err(_) => Err(Stop::NoMemory),
             Ok(()) => Ok(()),
         },
     }

@@ -5,10 +5,10 @@ ghost use Rattle.jats_io.specs.Causes.{HasCause};
 ghost use Rattle.text_fronts.specs.Fronts.{trimmed};
 ghost use Rattle.module_reader.specs.Frames.{Begins, IsMoved, IsSound, Starts, current, end_of, with_start};
 ghost use Rattle.module_reader.specs.Keywords.{keyword_of};
-ghost use Rattle.module_reader.specs.Outcomes.{LoadFailed, IsAbsence};
+ghost use Rattle.module_reader.specs.Endings.{LoadFailed, IsAbsence};
 
-use crate::ReadFault;
 use crate::frames::{Start, Work};
+use crate::refusals::Stop;
 use crate::standing::Standing;
 use crate::stops::{not_ended, refused};
 use crate::texts::text_read;
@@ -53,7 +53,7 @@ fn start_of(
     at: usize,
     next: usize,
     word: &Text,
-) -> Result<Start, ReadFault>
+) -> Result<Start, Stop>
     requires { (at < next) × (next ≤ length text.now) }
     ensures starts { Starts standing.now text.now at next (trimmed word.now) result }
     ensures within { IfOk result (λ s. (next ≤ end_of s next) × (end_of s next ≤ length text.now)) }
@@ -90,12 +90,7 @@ fn go_behind(work: &mut Work, start: Start, next: usize) -> Result<(), NoMemory>
 }
 
 /// Goes on behind the start of a section, whose keyword part is expanded and ends at the next place.
-pub fn begin_section(
-    alloc: Global,
-    work: &mut Work,
-    next: usize,
-    word: &Text,
-) -> Result<(), ReadFault>
+pub fn begin_section(alloc: Global, work: &mut Work, next: usize, word: &Text) -> Result<(), Stop>
     requires sound { IsSound work.old }
     requires within { (work.old.frame.at < next) × (next ≤ length (current work.old).text) }
     ensures begins { Begins work.old work.new next (trimmed word.now) result }
@@ -106,7 +101,7 @@ pub fn begin_section(
     match start_of(alloc, text_read(work), &work.frame.standing, at, next, word) {
         Err(fault) => Err(fault),
         Ok(start) => match go_behind(work, start, next) {
-            Err(_) => Err(ReadFault::NoMemory),
+            Err(_) => Err(Stop::NoMemory),
             Ok(()) => Ok(()),
         },
     }

@@ -2,12 +2,12 @@
 
 ghost use Rattle.std.specs.Prelude.{◌≡◌, ◌+◌, ◌<◌, ◌≤◌, Err, length, true};
 ghost use Rattle.module_reader.specs.Frames.{Advances, IsSound, Nears, Stands, Turns, current, is_passed, left_of, rest_of};
-ghost use Rattle.module_reader.specs.Outcomes.{LoadFailed, IsAbsence};
+ghost use Rattle.module_reader.specs.Endings.{LoadFailed, IsAbsence};
 ghost use Rattle.module_reader.specs.Reading as spec;
 ghost use Rattle.module_reader.specs.Sources.{Source};
 
-use crate::ReadFault;
 use crate::frames::Work;
+use crate::refusals::Stop;
 use crate::stops::not_ended;
 use dtd_scanner::ItemKind;
 use std::alloc::Global;
@@ -36,7 +36,7 @@ pub fn close_section(work: &mut Work)
 }
 
 /// Goes on with the last text that waits, and answers whether one does.
-fn resume(work: &mut Work) -> Result<bool, ReadFault>
+fn resume(work: &mut Work) -> Result<bool, Stop>
     requires sound { IsSound work.old }
     requires over { (length (current work.old).text ≤ work.old.frame.at) × (length work.old.frame.sections.items ≡ 0) }
     ensures turns { (source : Source) → Turns source work.old work.new result }
@@ -54,7 +54,7 @@ fn resume(work: &mut Work) -> Result<bool, ReadFault>
 }
 
 /// The text has ended.
-pub fn finish_text(alloc: Global, work: &mut Work) -> Result<bool, ReadFault>
+pub fn finish_text(alloc: Global, work: &mut Work) -> Result<bool, Stop>
     requires sound { IsSound work.old }
     requires over { length (current work.old).text ≤ work.old.frame.at }
     ensures turns { (source : Source) → Turns source work.old work.new result }

@@ -1,16 +1,17 @@
 //! Refusals, by what stops a reading.
 
-ghost use Rattle.std.specs.Prelude.{◌≡◌, [], ◌∷◌, IfOk};
+ghost use Rattle.std.specs.Prelude.{◌≡◌, [], ◌∷◌, IfOk, IsTrue};
+ghost use Rattle.jats_fault.specs.Table.{has_number, table};
 ghost use Rattle.std.specs.Fmt.{decimal};
-ghost use Rattle.module_reader.specs.Outcomes.{Refuses};
+ghost use Rattle.module_reader.specs.Endings.{Refuses};
 ghost use Rattle.module_reader.specs.Stops as spec;
-ghost use Rattle.module_reader.specs.declared.faults.ReadFault.TheVariants as reading;
+ghost use Rattle.module_reader.specs.declared.refusals.Stop.TheVariants as reading;
 ghost use Rattle.jats_chars.specs.declared.decoding.DecodeFault.TheVariants as decoding;
 ghost use Rattle.entity_catalog.specs.declared.faults.CatalogFault.TheVariants as catalog;
 ghost use Rattle.pe_expansion.specs.declared.faults.PeFault.TheVariants as pe;
 ghost use Rattle.decl_set.specs.declared.faults.DeclFault.TheVariants as decl;
 
-use crate::ReadFault;
+use crate::refusals::{Refusal, Stop};
 use crate::standing::Standing;
 use decl_set::DeclFault;
 use entity_catalog::CatalogFault;
@@ -20,16 +21,17 @@ use pe_expansion::PeFault;
 use std::alloc::Global;
 
 /// A refusal by its number, with its place and details.
-pub fn refusal(alloc: Global, number: u16, place: &Text, offset: u64, details: Details) -> ReadFault
+pub fn refusal(alloc: Global, number: u16, place: &Text, offset: u64, details: Details) -> Stop
+    requires { IsTrue (has_number table number) }
     ensures { Refuses (spec.refusal number place.now offset details) result }
 {
     match place.copy(alloc) {
-        Ok(module) => ReadFault::Refused(Fault {
+        Ok(module) => Stop::Refused(Refusal::new(Fault {
             number,
             place: Place { module, offset },
             details,
-        }),
-        Err(_) => ReadFault::NoMemory,
+        })),
+        Err(_) => Stop::NoMemory,
     }
 }
 
@@ -44,13 +46,8 @@ fn place_in(standing: &Standing, at: usize) -> u64
 }
 
 /// A refusal of what begins at a place of the text.
-pub fn refused(
-    alloc: Global,
-    standing: &Standing,
-    at: usize,
-    number: u16,
-    details: Details,
-) -> ReadFault
+pub fn refused(alloc: Global, standing: &Standing, at: usize, number: u16, details: Details) -> Stop
+    requires { IsTrue (has_number table number) }
     ensures { Refuses (spec.refused standing.now at number details) result }
 {
     refusal(
@@ -87,12 +84,13 @@ fn three(alloc: Global, first: &Text, second: &Text, third: &Text) -> Result<Det
 }
 
 /// A refusal with a name as its detail.
-pub fn named(alloc: Global, standing: &Standing, at: usize, number: u16, name: &Name) -> ReadFault
+pub fn named(alloc: Global, standing: &Standing, at: usize, number: u16, name: &Name) -> Stop
+    requires { IsTrue (has_number table number) }
     ensures { Refuses (spec.refused standing.now at number (name.now ∷ [])) result }
 {
     match one(alloc, name.text()) {
         Ok(details) => refused(alloc, standing, at, number, details),
-        Err(_) => ReadFault::NoMemory,
+        Err(_) => Stop::NoMemory,
     }
 }
 
@@ -104,12 +102,13 @@ pub fn named_both(
     number: u16,
     first: &Name,
     second: &Name,
-) -> ReadFault
+) -> Stop
+    requires { IsTrue (has_number table number) }
     ensures { Refuses (spec.refused standing.now at number (first.now ∷ second.now ∷ [])) result }
 {
     match two(alloc, first.text(), second.text()) {
         Ok(details) => refused(alloc, standing, at, number, details),
-        Err(_) => ReadFault::NoMemory,
+        Err(_) => Stop::NoMemory,
     }
 }
 
@@ -122,12 +121,13 @@ fn named_token(
     element: &Name,
     name: &Name,
     token: &Text,
-) -> ReadFault
+) -> Stop
+    requires { IsTrue (has_number table number) }
     ensures { Refuses (spec.refused standing.now at number (element.now ∷ name.now ∷ token.now ∷ [])) result }
 {
     match three(alloc, element.text(), name.text(), token) {
         Ok(details) => refused(alloc, standing, at, number, details),
-        Err(_) => ReadFault::NoMemory,
+        Err(_) => Stop::NoMemory,
     }
 }
 
@@ -158,20 +158,20 @@ fn ambiguous(
     name: &Name,
     first: u32,
     second: u32,
-) -> ReadFault
+) -> Stop
     ensures { Refuses (spec.refused standing.now at 32 (name.now ∷ decimal first ∷ decimal second ∷ [])) result }
 {
     match (decimal_text(alloc, first), decimal_text(alloc, second)) {
         (Ok(first), Ok(second)) => match three(alloc, name.text(), &first, &second) {
             Ok(details) => refused(alloc, standing, at, 32, details),
-            Err(_) => ReadFault::NoMemory,
+            Err(_) => Stop::NoMemory,
         },
-        _ => ReadFault::NoMemory,
+        _ => Stop::NoMemory,
     }
 }
 
 /// An item that begins there does not end in the text.
-pub fn not_ended(alloc: Global, standing: &Standing, at: usize) -> ReadFault
+pub fn not_ended(alloc: Global, standing: &Standing, at: usize) -> Stop
     ensures { Refuses (spec.not_ended standing.now at) result }
 {
     match &standing.inner {
@@ -181,7 +181,7 @@ pub fn not_ended(alloc: Global, standing: &Standing, at: usize) -> ReadFault
 }
 
 /// What stops an expansion.
-pub fn pe_stop(alloc: Global, standing: &Standing, at: usize, fault: PeFault) -> ReadFault
+pub fn pe_stop(alloc: Global, standing: &Standing, at: usize, fault: PeFault) -> Stop
     ensures refuses { Refuses (spec.pe_stop standing.now at fault) result }
     ensures memory { fault ≡ pe.NoMemory → result ≡ reading.NoMemory }
 {
@@ -193,12 +193,12 @@ pub fn pe_stop(alloc: Global, standing: &Standing, at: usize, fault: PeFault) ->
         PeFault::ExpansionOver(name) => named(alloc, standing, at, 25, &name),
         PeFault::NotLoaded(_) => refused(alloc, standing, at, 20, Details::new(alloc)),
         PeFault::Malformed => refused(alloc, standing, at, 20, Details::new(alloc)),
-        PeFault::NoMemory => ReadFault::NoMemory,
+        PeFault::NoMemory => Stop::NoMemory,
     }
 }
 
 /// Why a declaration is refused.
-pub fn decl_stop(alloc: Global, standing: &Standing, at: usize, fault: DeclFault) -> ReadFault
+pub fn decl_stop(alloc: Global, standing: &Standing, at: usize, fault: DeclFault) -> Stop
     ensures refuses { Refuses (spec.decl_stop standing.now at fault) result }
     ensures memory { fault ≡ decl.NoMemory → result ≡ reading.NoMemory }
 {
@@ -231,12 +231,12 @@ pub fn decl_stop(alloc: Global, standing: &Standing, at: usize, fault: DeclFault
         }
         DeclFault::ElementsOver(name) => named(alloc, standing, at, 41, &name),
         DeclFault::FollowsOver(name) => named(alloc, standing, at, 43, &name),
-        DeclFault::NoMemory => ReadFault::NoMemory,
+        DeclFault::NoMemory => Stop::NoMemory,
     }
 }
 
 /// Why the bytes of a file are no text.
-pub fn decode_stop(alloc: Global, name: &Text, fault: DecodeFault) -> ReadFault
+pub fn decode_stop(alloc: Global, name: &Text, fault: DecodeFault) -> Stop
     ensures refuses { Refuses (spec.decode_stop name.now fault) result }
     ensures memory { fault ≡ decoding.NoMemory → result ≡ reading.NoMemory }
 {
@@ -246,12 +246,12 @@ pub fn decode_stop(alloc: Global, name: &Text, fault: DecodeFault) -> ReadFault
         DecodeFault::NotChar(byte) => refusal(alloc, 14, name, byte, none),
         DecodeFault::BadTextDecl => refusal(alloc, 15, name, 0, none),
         DecodeFault::EncodingOther => refusal(alloc, 16, name, 0, none),
-        DecodeFault::NoMemory => ReadFault::NoMemory,
+        DecodeFault::NoMemory => Stop::NoMemory,
     }
 }
 
 /// Why a text is no catalog.
-pub fn catalog_stop(alloc: Global, name: &Text, fault: CatalogFault) -> ReadFault
+pub fn catalog_stop(alloc: Global, name: &Text, fault: CatalogFault) -> Stop
     ensures refuses { Refuses (spec.catalog_stop name.now fault) result }
     ensures memory { fault ≡ catalog.NoMemory → result ≡ reading.NoMemory }
 {
@@ -259,6 +259,6 @@ pub fn catalog_stop(alloc: Global, name: &Text, fault: CatalogFault) -> ReadFaul
     match fault {
         CatalogFault::Malformed(line) => refusal(alloc, 50, name, line, none),
         CatalogFault::PathEscapes(line) => refusal(alloc, 51, name, line, none),
-        CatalogFault::NoMemory => ReadFault::NoMemory,
+        CatalogFault::NoMemory => Stop::NoMemory,
     }
 }

@@ -1,7 +1,8 @@
-use Rattle.module_reader.proofs.CatalogFiles.{catalog_told}
+use Rattle.module_reader.proofs.CatalogFiles.{catalog_read, catalog_unread}
 use Rattle.module_reader.proofs.catalogs.load_named.Goals as goal
 
-pub returns-in-Ok-Bytes-clause-told : goal.returns-in-Ok-Bytes-clause-told
-returns-in-Ok-Bytes-clause-told g c =
-    catalog_told (g.S.Store.holds c.args.store.now) c.args.name.now c.in-Ok-Bytes.field-0 c.in-Ok-Bytes.bytes c.catalog_of_bytes.result c.in-Ok-Bytes.field-0-is c.in-Ok-Bytes.ensures.told
-    (rw c.as_slice.ensures.value at c.catalog_of_bytes.ensures.told)
+pub returns-in-Err-clause-told : goal.returns-in-Err-clause-told
+returns-in-Err-clause-told g c = catalog_unread (g.S.Store.holds c.args.store.now) c.args.name.now c.in-Err.stop c.in-Err.ensures.told
+
+pub returns-in-Ok-clause-told : goal.returns-in-Ok-clause-told
+returns-in-Ok-clause-told g c = catalog_read (g.S.Store.holds c.args.store.now) c.args.name.now c.in-Ok.text c.catalog_of_text.result c.in-Ok.ensures.told c.catalog_of_text.ensures.told

@@ -1,6 +1,6 @@
 use Rattle.std.proofs.Common.{◌≡◌, ◌∙◌, sym, refl, [], None, Ok, Err, slice_get}
 use Rattle.module_reader.specs.Frames.{Ends, from, left_of, text_found}
-use Rattle.module_reader.specs.Outcomes.{Reads}
+use Rattle.module_reader.specs.Endings.{Reads}
 use Rattle.module_reader.specs.Sources.{Files, Source}
 use Rattle.module_reader.specs.declared.frames.Frame.{Frame}
 use Rattle.module_reader.specs.declared.frames.Work.{Work}

@@ -3,7 +3,7 @@ use Rattle.std.specs.Prelude.{Result}
 use Rattle.jats_fault.specs.declared.fault.Fault.{Fault}
 use Rattle.decl_set.specs.Declarations.{Declarations}
 use Rattle.module_reader.specs.Frames.{from, text_found}
-use Rattle.module_reader.specs.Outcomes.{Reads}
+use Rattle.module_reader.specs.Endings.{Reads}
 use Rattle.module_reader.specs.Sets.{entry_read}
 use Rattle.module_reader.specs.Sources.{Files, Source}
 use Rattle.module_reader.specs.Stops.{module_text}

@@ -1,0 +1,16 @@
+use Rattle.std.proofs.Common.{sym}
+use Rattle.dtd_scanner.specs.declared.item.ItemKind.TheVariants.{NotationDecl}
+use Rattle.dtd_flattener.specs.Flat.{notation_body, written}
+use Rattle.dtd_flattener.proofs.Sized.{size_zero, sizes_more, sizes_end}
+use Rattle.dtd_flattener.proofs.sizes.notations_size.Goals as goal
+
+pub loop-at-preserved : goal.loop-at-preserved
+loop-at-preserved c =
+    sizes_more (λ n. written (NotationDecl, notation_body n)) c.args.set.now.notations c.loop-at.at (c.in-Some.name.now, c.in-Some.ids.now) c.loop-at.total c.in_ok-more-in-Some.more c.saturating_add-total.result
+    (sym c.in-Some.ensures) c.loop-at.invariant c.in_ok-more-in-Some.ensures c.saturating_add-total.ensures
+
+pub loop-at-init : goal.loop-at-init
+loop-at-init c = size_zero
+
+pub returns-in-None : goal.returns-in-None
+returns-in-None c = sizes_end (λ n. written (NotationDecl, notation_body n)) c.args.set.now.notations c.loop-at.at c.loop-at.total (sym c.in-None.ensures) c.loop-at.invariant

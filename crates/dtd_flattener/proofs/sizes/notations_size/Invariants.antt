@@ -1,0 +1,9 @@
+use Rattle.std.proofs.Common.{◌≡◌, map, take}
+use Rattle.std.specs.List.{concat}
+use Rattle.dtd_scanner.specs.declared.item.ItemKind.TheVariants.{NotationDecl}
+use Rattle.dtd_flattener.specs.Flat.{notation_body, written}
+use Rattle.dtd_flattener.specs.Sizes.{size_of, capped}
+use Rattle.dtd_flattener.proofs.sizes.notations_size.Given as goal
+
+abbrev pub invariant-loop-at : goal.invariant-loop-at
+invariant-loop-at l = l.total ≡ capped (size_of (concat (map (λ n. written (NotationDecl, notation_body n)) (take l.at l.set.notations))))
