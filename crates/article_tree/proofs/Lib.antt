@@ -21,3 +21,4 @@ pub mod Places
 pub mod Taken
 pub mod Waiting
 pub mod Holding
+pub mod Valued

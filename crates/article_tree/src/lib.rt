@@ -13,10 +13,12 @@
 mod fronts;
 mod held;
 mod laws;
+mod repeats;
 mod runs;
 mod stops;
 mod taking;
 mod token;
+mod values;
 
 pub use laws::{
     article_law, content_law, document_law, fault_law, one_law, placing_law, token_law, writing_law,

@@ -1,0 +1,1 @@
+use Rattle.article_tree.proofs.repeats.repeated_among.Goals as goal
