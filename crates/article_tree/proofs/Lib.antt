@@ -22,3 +22,4 @@ pub mod Taken
 pub mod Waiting
 pub mod Holding
 pub mod Valued
+pub mod Appended

@@ -19,7 +19,11 @@ mod stops;
 mod taking;
 mod token;
 mod values;
+mod writing;
+mod written;
 
+pub use document_trees::{AttValues, Item, ItemList, Node};
 pub use laws::{
     article_law, content_law, document_law, fault_law, one_law, placing_law, token_law, writing_law,
 };
+pub use writing::write_article;
