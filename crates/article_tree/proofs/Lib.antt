@@ -23,3 +23,5 @@ pub mod Waiting
 pub mod Holding
 pub mod Valued
 pub mod Appended
+pub mod Standing
+pub mod Tagged

@@ -1,5 +1,5 @@
 -- Attributes, read one by one.
-use Rattle.std.proofs.Common.{◌≡◌, ◌∙◌, ℕ, suc, ◌+◌, ◌<◌, List, [], ◌∷◌, ◌++◌, length, map, drop, slice_index_or, Bool, true, false, not, Option, Some, None, Result, Ok, Err, refl, ap, sym, arith, append_assoc, Bor, bytes_eq}
+use Rattle.std.proofs.Common.{◌≡◌, ◌∙◌, ℕ, suc, ◌+◌, ◌<◌, List, [], ◌∷◌, ◌++◌, length, map, drop, slice_index_or, Bool, true, false, not, Some, None, Result, Ok, Err, refl, ap, sym, arith, append_assoc, Bor, bytes_eq}
 use Rattle.std.specs.Prelude.{if◌then◌else◌, ◌||◌}
 use Rattle.std.specs.List.{list_any, AllByRecursion}
 use Rattle.std.proofs.lemmas.Bool.{cond-true, cond-false}
@@ -92,11 +92,11 @@ any_last name (k ∷ keys) key = ap (λ b. bytes_eq name k.now || b) (any_last n
     swap false true c = refl
     swap false false c = refl
 
-not_true : (a b : Bool) → b ≡ not a → b ≡ false → a ≡ true
+pub not_true : (a b : Bool) → b ≡ not a → b ≡ false → a ≡ true
 not_true true b e f = refl
 not_true false b e f = sym f ∙ e
 
-not_false : (a b : Bool) → b ≡ not a → b ≡ true → a ≡ false
+pub not_false : (a b : Bool) → b ≡ not a → b ≡ true → a ≡ false
 not_false true b e f = sym f ∙ e
 not_false false b e f = refl
 

@@ -1,5 +1,5 @@
 -- What the calls that read answer, unless memory runs out.
-use Rattle.std.specs.Prelude.{◌≡◌, ℕ, List, IsTrue, Option, option_map, Result, Ok, Err}
+use Rattle.std.specs.Prelude.{◌≡◌, ℕ, List, [], ◌∷◌, IsTrue, Option, Some, None, option_map, Result, Ok, Err}
 use Rattle.jats_chars.specs.Names.{is_name}
 use Rattle.attlist_merge.specs.Grammar.{is_value}
 use Rattle.document_trees.specs.Trees.{Attribute}
@@ -8,7 +8,10 @@ use Rattle.article_tree.specs.Tokens.{Raw}
 use Rattle.jats_fault.specs.declared.fault.Fault.{Fault}
 use Rattle.decl_set.specs.declared.faults.ValueFault.{ValueFault}
 use Rattle.decl_set.specs.declared.faults.ValueFault.TheVariants as value
-use Rattle.article_tree.specs.Stops.{Inner, Standing, value_stop}
+use Rattle.article_tree.specs.Stops.{Inner, Standing, refused, value_stop}
+use Rattle.article_tree.specs.Held.{EndsApart, state_of}
+use Rattle.article_tree.specs.Reading.{State}
+use Rattle.article_tree.specs.declared.held.Held.{Held}
 use Rattle.article_tree.specs.declared.stops.EntityText.{EntityText}
 use Rattle.article_tree.specs.declared.stops.Stand.{Stand}
 use Rattle.article_tree.specs.declared.stops.ArticleFault.{ArticleFault}
@@ -50,3 +53,14 @@ counted_text spent text = record { text = text; spent = spent }
 
 abbrev pub counted : ℕ → List Attribute → List Attribute × ℕ
 counted spent atts = (atts, spent)
+
+-- the new state is what a definition says, or the fault is
+abbrev pub Moves : {X : Type 0} → Result State Fault → Held → Result X ArticleFault → Type 0
+Moves said new (Ok x) = (said ≡ Ok (state_of new)) × EndsApart new.items.items
+Moves said new (Err fault) = Fails fault said
+
+-- no attribute stands twice, or the refusal names the first that does
+abbrev pub TestsRepeated : {X : Type 0} → Standing → ℕ → List ℕ → Option (List ℕ) → Result X ArticleFault → Type 0
+TestsRepeated c at name again (Ok x) = again ≡ None
+TestsRepeated c at name again (Err (Refused refusal)) = (twice : List ℕ) × (again ≡ Some twice) × (refusal ≡ refused c at 62 (name ∷ twice ∷ []))
+TestsRepeated c at name again (Err NoMemory) = Unit {0}

@@ -10,6 +10,7 @@
 //! text is an article of one node at most, and that what is written of a writable node is read back.
 #![tactic(auto)]
 
+mod elements;
 mod fronts;
 mod held;
 mod laws;
@@ -17,7 +18,10 @@ mod repeats;
 mod runs;
 mod stops;
 mod taking;
+#[cfg(test)]
+mod tests;
 mod token;
+mod tokens;
 mod values;
 mod writing;
 mod written;

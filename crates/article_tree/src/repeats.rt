@@ -8,10 +8,7 @@ use indexmap::IndexSet;
 use jats_chars::{Name, NoMemory, Text};
 use std::alloc::Global;
 
-fn repeated_among<'a>(
-    alloc: Global,
-    atts: &'a [(Name, Text)],
-) -> Result<Option<&'a Name>, NoMemory>
+fn repeated_among<'a>(alloc: Global, atts: &'a [(Name, Text)]) -> Result<Option<&'a Name>, NoMemory>
     ensures { IfOk result (λ o. option_copied o ≡ repeated [] atts.now) }
 {
     let mut seen = IndexSet::new(alloc);

@@ -51,11 +51,7 @@ fn write_element<'a>(
 }
 
 /// Writes an item.
-fn write_item<'a>(
-    work: &mut Writing<'a>,
-    item: &'a Item,
-    after: &'a [Item],
-) -> Result<(), NoMemory>
+fn write_item<'a>(work: &mut Writing<'a>, item: &'a Item, after: &'a [Item]) -> Result<(), NoMemory>
     requires { work.old.items.now ≡ item.now ∷ after.now }
     ensures { OnOk result (Writes work.old work.new) }
 {

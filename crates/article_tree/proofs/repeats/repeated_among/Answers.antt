@@ -1,1 +1,0 @@
-use Rattle.article_tree.proofs.repeats.repeated_among.Goals as goal

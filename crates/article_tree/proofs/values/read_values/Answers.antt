@@ -1,5 +1,5 @@
-use Rattle.std.proofs.Common.{map, slice_index_or, drop, ◌+◌}
-use Rattle.article_tree.specs.Outcomes.{counted, counted_text, standing_of}
+use Rattle.std.proofs.Common.{map}
+use Rattle.article_tree.specs.Outcomes.{standing_of}
 use Rattle.article_tree.specs.Taken.{raw_of}
 use Rattle.article_tree.proofs.Valued.{att_at, fails_on, first_raw, valued_on, valued_stops}
 use Rattle.article_tree.proofs.values.read_values.Goals as goal

@@ -1,4 +1,3 @@
-use Rattle.article_tree.specs.WritingSteps.{whole_of}
 use Rattle.article_tree.proofs.Appended.{step_keeps, step_falls}
 use Rattle.article_tree.proofs.writing.write_all.Goals as goal
 
