@@ -1,5 +1,5 @@
 -- Items and open elements as a program holds them.
-use Rattle.std.proofs.Common.{◌≡◌, ◌∙◌, ℕ, ◌+◌, ◌<◌, ◌&&◌, List, [], ◌∷◌, ◌++◌, length, Bool, Option, Some, None, refl, ap, sym, arith}
+use Rattle.std.proofs.Common.{◌≡◌, ◌∙◌, ℕ, ◌+◌, ◌&&◌, List, [], ◌∷◌, ◌++◌, length, Bool, Option, Some, None, refl, ap, sym, arith}
 use Rattle.document_trees.specs.Trees.{Items, Node}
 use Rattle.document_trees.specs.Trees as tree
 use Rattle.document_trees.specs.Seen as seen
@@ -7,7 +7,7 @@ use Rattle.document_trees.specs.Seen.{items_of}
 use Rattle.document_trees.specs.declared.nodes.Item.{Item}
 use Rattle.document_trees.specs.declared.nodes.Item.TheVariants.{Element, Chars, Comment, Pi}
 use Rattle.article_tree.specs.Content.{joined, run}
-use Rattle.article_tree.specs.Held.{run_items, held_items, open_of, stacked, IsOther, EndsApart}
+use Rattle.article_tree.specs.Held.{held_items, open_of, stacked, IsOther, EndsApart}
 use Rattle.article_tree.specs.Reading.{Open, State, put, popped}
 use Rattle.article_tree.specs.declared.held.Run.{Run}
 use Rattle.article_tree.specs.declared.held.OpenElement.{OpenElement}

@@ -21,3 +21,7 @@ pub mod Places
 pub mod Taken
 pub mod Waiting
 pub mod Holding
+pub mod Valued
+pub mod Appended
+pub mod Standing
+pub mod Tagged

@@ -3,9 +3,8 @@ use Rattle.std.proofs.Common.{◌≡◌, ◌∙◌, ℕ, suc, ◌+◌, ◌-◌, 
 use Rattle.dtd_scanner.specs.Walk.{◌>>=◌, over}
 use Rattle.dtd_scanner.proofs.Walking.{bind_cong, bind_assoc, bind_ok, over_at, over_end}
 use Rattle.jats_fault.specs.declared.fault.Fault.{Fault}
-use Rattle.document_trees.specs.Trees.{Node}
 use Rattle.decl_set.specs.Declarations.{Entity}
-use Rattle.article_tree.specs.Reading.{Open, State, Article, Stepping, article_step, article_by, holding, whole}
+use Rattle.article_tree.specs.Reading.{Open, State, Article, article_step, article_by, holding, whole}
 use Rattle.article_tree.specs.InPlace.{reading_in, noted, closed_in}
 use Rattle.article_tree.specs.Frames.{Passage, moved, rest_of, step, from, article_from, resumed, left, IsInside}
 

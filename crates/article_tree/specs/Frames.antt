@@ -1,5 +1,5 @@
 -- Texts that wait, and what is left to do.
-use Rattle.std.specs.Prelude.{◌≡◌, ◌<◌, ℕ, ◌+◌, ◌-◌, ◌*◌, Bool, true, List, [], ◌∷◌, ◌++◌, length, drop, map, Option, Some, None, Result, Ok, Err}
+use Rattle.std.specs.Prelude.{◌≡◌, ℕ, ◌+◌, ◌-◌, Bool, true, List, [], ◌∷◌, length, drop, Result, Ok}
 use Rattle.dtd_scanner.specs.Walk.{◌>>=◌, over}
 use Rattle.jats_fault.specs.declared.fault.Fault.{Fault}
 use Rattle.document_trees.specs.Trees.{Node}

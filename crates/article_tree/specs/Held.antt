@@ -1,5 +1,5 @@
 -- What was read so far, as a program holds it.
-use Rattle.std.specs.Prelude.{ℕ, List, [], ◌∷◌, Option, Some, None}
+use Rattle.std.specs.Prelude.{List, [], ◌∷◌, Option, Some, None}
 use Rattle.document_trees.specs.Trees.{Items}
 use Rattle.document_trees.specs.Trees as tree
 use Rattle.document_trees.specs.Seen.{items_of}

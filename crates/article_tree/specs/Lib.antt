@@ -14,3 +14,4 @@ pub mod Taken
 pub mod Frames
 pub mod Held
 pub mod Outcomes
+pub mod WritingSteps

@@ -46,6 +46,12 @@ written_run text false = marked_run text
 abbrev pub written_attribute : Attribute → List ℕ
 written_attribute a = codes " " ++ (a.0 ++ (codes "=\"" ++ (flat_map value_char a.1 ++ codes "\"")))
 
+abbrev pub tag_front : List ℕ → List Attribute → List ℕ
+tag_front name atts = codes "<" ++ (name ++ flat_map written_attribute atts)
+
+abbrev pub end_tag : List ℕ → List ℕ
+end_tag name = codes "</" ++ (name ++ codes ">")
+
 -- an empty element has one tag
 abbrev pub enclosed : List ℕ → Items → List ℕ → List ℕ
 enclosed name tree.nothing text = codes "/>"
@@ -55,12 +61,18 @@ abbrev pub written_body : List ℕ → List ℕ
 written_body [] = []
 written_body (c ∷ cs) = codes " " ++ (c ∷ cs)
 
+abbrev pub written_comment : List ℕ → List ℕ
+written_comment text = codes "<!--" ++ (text ++ codes "-->")
+
+abbrev pub written_pi : List ℕ → List ℕ → List ℕ
+written_pi target body = codes "<?" ++ (target ++ (written_body body ++ codes "?>"))
+
 abbrev pub written : Items → List ℕ
 written tree.nothing = []
 written (tree.element name atts inside later) = codes "<" ++ (name ++ (flat_map written_attribute atts ++ enclosed name inside (written inside))) ++ written later
 written (tree.chars text plain later) = written_run text plain ++ written later
-written (tree.comment text later) = codes "<!--" ++ (text ++ codes "-->") ++ written later
-written (tree.pi target body later) = codes "<?" ++ (target ++ (written_body body ++ codes "?>")) ++ written later
+written (tree.comment text later) = written_comment text ++ written later
+written (tree.pi target body later) = written_pi target body ++ written later
 
 -- the text of a node
 abbrev pub write : Node → List ℕ

@@ -10,14 +10,24 @@
 //! text is an article of one node at most, and that what is written of a writable node is read back.
 #![tactic(auto)]
 
+mod elements;
 mod fronts;
 mod held;
 mod laws;
+mod repeats;
 mod runs;
 mod stops;
 mod taking;
+#[cfg(test)]
+mod tests;
 mod token;
+mod tokens;
+mod values;
+mod writing;
+mod written;
 
+pub use document_trees::{AttValues, Item, ItemList, Node};
 pub use laws::{
     article_law, content_law, document_law, fault_law, one_law, placing_law, token_law, writing_law,
 };
+pub use writing::write_article;

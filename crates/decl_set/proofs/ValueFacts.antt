@@ -67,7 +67,7 @@ row : (a b c : ℕ) → in_row c (a, b) ≡ true → (a ≤ c) × (c ≤ b)
 row a b c is = let h = and_parts (nat_le a c) (nat_le c b) is in (leb-true a c h.0, leb-true c b h.1)
 
 -- white space is TAB, LF, CR or a space
-space_left : (c : ℕ) → c ≢ 9 → c ≢ 10 → c ≢ 13 → is_space c ≡ true → c ≡ 32
+pub space_left : (c : ℕ) → c ≢ 9 → c ≢ 10 → c ≢ 13 → is_space c ≡ true → c ≡ 32
 unfolding is_space
 space_left c tab feed back is =
     ⊎_elim (λ first. let h = row 9 10 c first in omega (arith, h.0, h.1))

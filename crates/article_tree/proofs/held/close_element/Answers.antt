@@ -1,7 +1,6 @@
-use Rattle.std.proofs.Common.{◌≡◌, ◌∙◌, ap, refl}
+use Rattle.std.proofs.Common.{◌≡◌, ◌∙◌, refl}
 use Rattle.document_trees.specs.Seen.{items_of}
 use Rattle.document_trees.specs.Trees.{Node}
-use Rattle.document_trees.specs.declared.nodes.Item.{Item}
 use Rattle.article_tree.proofs.Holding.{element_closed, other_ends}
 use Rattle.article_tree.proofs.held.close_element.Goals as goal
 

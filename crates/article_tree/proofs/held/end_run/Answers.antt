@@ -1,8 +1,5 @@
-use Rattle.std.proofs.Common.{◌≡◌, ◌∙◌, ap, sym, Some, None}
-use Rattle.std.specs.Prelude.{Option}
-use Rattle.document_trees.specs.Trees.{Items}
+use Rattle.std.proofs.Common.{◌∙◌, ap}
 use Rattle.article_tree.specs.Held.{held_items}
-use Rattle.article_tree.specs.declared.held.Run.{Run}
 use Rattle.article_tree.proofs.Holding.{run_none, run_joined_last}
 use Rattle.article_tree.proofs.held.end_run.Goals as goal
 
