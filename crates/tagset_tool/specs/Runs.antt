@@ -32,15 +32,6 @@ abbrev pub WritesAbsence : Option (List ℕ) → Option (List ℕ) → Type 0
 WritesAbsence None now = ⊥
 WritesAbsence (Some before) now = (bytes : List ℕ) × (now ≡ Some (before ++ bytes)) × IsTrue (is_absence bytes)
 
-abbrev pub StandsInTable : ReadFault → Type 0
-StandsInTable (fault.Refused refusal) = IsTrue (has_number table refusal.number)
-StandsInTable fault.LoadFailed = Unit {0}
-StandsInTable fault.NoMemory = Unit {0}
-
-abbrev pub IsNumbered : {T : Type 0} → Result T ReadFault → Type 0
-IsNumbered (Ok x) = Unit {0}
-IsNumbered (Err fault) = StandsInTable fault
-
 -- the answer to a fault of reading
 abbrev pub StopsAs : ReadFault → Result Answer Stop → Type 0
 StopsAs (fault.Refused refusal) (Ok answer) = refusing refusal answer.status answer.bytes.items

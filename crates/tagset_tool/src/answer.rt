@@ -3,9 +3,9 @@
 ghost use Rattle.std.specs.Prelude.{◌<◌, ◌^◌, Err, IfOk, IsTrue};
 ghost use Rattle.decl_set.specs.Declarations.{Declarations};
 ghost use Rattle.jats_fault.specs.Table.{table, has_number};
-ghost use Rattle.module_reader.specs.Outcomes.{IsAbsence};
+ghost use Rattle.module_reader.specs.Outcomes.{IsAbsence, StandsInTable};
 ghost use Rattle.tagset_tool.specs.Outcomes.{refusing};
-ghost use Rattle.tagset_tool.specs.Runs.{AnswersAbsence, Says, StandsInTable, StopsAs};
+ghost use Rattle.tagset_tool.specs.Runs.{AnswersAbsence, Says, StopsAs};
 
 use jats_chars::NoMemory;
 use jats_fault::{Fault, line};
@@ -27,7 +27,7 @@ pub enum Stop {
 }
 
 /// The most bytes of an output.
-pub const MOST_WRITTEN: usize = 268_435_456;
+pub const MOST_WRITTEN: u64 = 268_435_456;
 
 /// The line of a refusal of the table.
 pub fn refused(alloc: Global, refusal: &Fault) -> Result<Answer, NoMemory>

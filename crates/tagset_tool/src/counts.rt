@@ -1,36 +1,13 @@
 //! How much a set declares.
 
-ghost use Rattle.std.specs.Prelude.{◌≡◌, ◌+◌, IfOk, length};
+ghost use Rattle.std.specs.Prelude.{◌≡◌, ◌+◌, IfOk};
 ghost use Rattle.tagset_tool.specs.Counts as spec;
 
 use decl_set::DeclSet;
 use jats_chars::NoMemory;
 use std::alloc::Global;
 
-/// How many general entities there are: no more than a number of places counts.
-fn entity_count(set: &DeclSet) -> Result<usize, NoMemory>
-    ensures { IfOk result (λ n. n ≡ length set.now.entities) }
-{
-    for k in 0..usize::MAX {
-        if set.entity_at(k).is_none() {
-            return Ok(k);
-        }
-    }
-    Err(NoMemory)
-}
-
-/// How many notations there are: no more than a number of places counts.
-fn notation_count(set: &DeclSet) -> Result<usize, NoMemory>
-    ensures { IfOk result (λ n. n ≡ length set.now.notations) }
-{
-    for k in 0..usize::MAX {
-        if set.notation_at(k).is_none() {
-            return Ok(k);
-        }
-    }
-    Err(NoMemory)
-}
-
+/// A sum with one number more, where it is below 2^64.
 fn plus(sum: u64, len: usize) -> Result<u64, NoMemory>
     ensures { IfOk result (λ n. n ≡ sum + len) }
 {
@@ -45,13 +22,13 @@ fn attribute_count(set: &DeclSet) -> Result<u64, NoMemory>
     ensures { IfOk result (λ n. n ≡ spec.attribute_count set.now) }
 {
     let mut sum: u64 = 0;
-    for k in 0..usize::MAX {
+    for k in 0..set.list_count() {
         match set.list_at(k) {
             None => return Ok(sum),
             Some((_, list)) => sum = plus(sum, list.len())?,
         }
     }
-    Err(NoMemory)
+    Ok(sum)
 }
 
 /// How much a set declares: `ok`, and a line for each list.
@@ -61,8 +38,8 @@ pub fn count_lines(alloc: Global, set: &DeclSet) -> Result<Vec<u8>, NoMemory>
 {
     let elements = set.count();
     let attributes = attribute_count(set)?;
-    let entities = entity_count(set)?;
-    let notations = notation_count(set)?;
+    let entities = set.entity_count();
+    let notations = set.notation_count();
     let lines = format!(in alloc;
         "ok\nelements {elements}\nattributes {attributes}\nentities {entities}\nnotations {notations}\n"
     )?;

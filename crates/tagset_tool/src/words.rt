@@ -3,9 +3,8 @@
 ghost use Rattle.std.specs.Prelude.{◌≡◌, ◌<◌, ◌+◌, IfSome, bytes_eq, length};
 ghost use Rattle.std.specs.Option.{option_copied};
 ghost use Rattle.jats_io.specs.Causes.{HasCause};
-ghost use Rattle.module_reader.specs.Outcomes.{LoadFailed, IsAbsence, Reads};
+ghost use Rattle.module_reader.specs.Outcomes.{LoadFailed, IsAbsence, IsNumbered, Reads};
 ghost use Rattle.module_reader.specs.Sets.{set_of};
-ghost use Rattle.tagset_tool.specs.Runs.{IsNumbered};
 ghost use Rattle.tagset_tool.specs.Words as spec;
 
 use decl_set::DeclSet;

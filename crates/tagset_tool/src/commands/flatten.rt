@@ -12,21 +12,21 @@ use crate::answer::{Answer, MOST_WRITTEN, Stop, refused, stop_of};
 use crate::refusals::output_over;
 use crate::words::read_words;
 use decl_set::DeclSet;
-use dtd_flattener::flatten;
+use dtd_flattener::{flat_size, flatten};
 use jats_chars::{NoMemory, Text};
 use jats_io::Store;
 use std::alloc::Global;
 
-/// The flat text of a set, unless it is too long.
+/// The flat text of a set, unless it is too long, which is known before it is written.
 fn flattened(alloc: Global, set: &DeclSet) -> Result<Answer, NoMemory>
     ensures fits { IfOk result (λ a. fitting 0 (encode_utf8_all (flat_text set.now)) a.status a.bytes.items) }
     ensures says { IfOk result (λ a. Says a.status a.bytes.items) }
 {
-    let bytes = flatten(alloc, set)?;
-    if bytes.len() > MOST_WRITTEN {
+    if flat_size(alloc, set)? > MOST_WRITTEN {
         let refusal = output_over(alloc)?;
         refused(alloc, &refusal)
     } else {
+        let bytes = flatten(alloc, set)?;
         Ok(Answer { status: 0, bytes })
     }
 }
