@@ -50,6 +50,21 @@ PAIRS = [
      '<!NOTATION x SYSTEM "x"><!NOTATION y SYSTEM "x">', (0, 0, 0, 2)),
     ("a notation twice with the same identifiers", '<!NOTATION x PUBLIC "p">¶<!NOTATION x PUBLIC "p">',
      "E29 DuplicateNotation @ x", '<!ENTITY x "x"><!NOTATION x PUBLIC "p">', (0, 0, 1, 1)),
+    ("the second of two notations again, before the first again",
+     '<!NOTATION x SYSTEM "x"><!NOTATION y SYSTEM "x">¶<!NOTATION y SYSTEM "y"><!NOTATION x SYSTEM "y">',
+     "E29 DuplicateNotation @ y", '<!NOTATION x SYSTEM "x"><!NOTATION y SYSTEM "x">', (0, 0, 0, 2)),
+    ("an identifier with a value before a start of a tag", "¶<!ATTLIST e i ID 'v' k CDATA '<'>", "E33 IdPreset @ e i",
+     "<!ATTLIST e i IDREF 'v' k CDATA '>'>", (0, 2)),
+    ("an identifier with a value that is no name", "¶<!ATTLIST e i ID '1 2'>", "E33 IdPreset @ e i",
+     "<!ATTLIST e i NMTOKENS '1 2'>", (0, 1)),
+    ("an entity that is not declared before a start of a tag in the next value",
+     "¶<!ATTLIST e k CDATA '&none;' l CDATA '<'>", "E26 EntityUndeclared @ none",
+     "<!ENTITY none ''><!ATTLIST e k CDATA '&none;' l CDATA '&lt;'>", (0, 2, 1)),
+    ("a start of a tag behind an entity that is declared",
+     "<!ENTITY at '@'>¶<!ATTLIST e k CDATA '&at;' l CDATA '<&none;'>", "E27 LessThanInValue @ l",
+     "<!ENTITY at '@'><!ATTLIST e k CDATA '&at;' k CDATA '<&none;'>", (0, 1, 1)),
+    ("the first token that equals an earlier one", "¶<!ATTLIST e n NOTATION (x|y|y|x) #REQUIRED>",
+     "E38 DuplicateToken @ e n y", "<!ATTLIST e n (x|y) #REQUIRED>", (0, 1)),
     ("an identifier with a value", '¶<!ATTLIST a i ID "x">', "E33 IdPreset @ a i", "<!ATTLIST a i ID #IMPLIED>", (0, 1)),
     ("an identifier with a fixed value", '¶<!ATTLIST a i ID #FIXED "x">', "E33 IdPreset @ a i",
      "<!ATTLIST a i ID #REQUIRED>", (0, 1)),
@@ -139,6 +154,9 @@ ENDS = [
      "<!ATTLIST b n NOTATION (y) #IMPLIED><!ELEMENT a EMPTY><!ATTLIST a n NOTATION (x) #IMPLIED>",
      "E37 NotationUndeclared @ b y",
      "<!NOTATION y SYSTEM ''><!ATTLIST b n NOTATION (y) #IMPLIED><!ELEMENT a EMPTY>", (1, 1, 0, 1)),
+    ("an entity's notation, though an entity of its name is declared twice",
+     '<!ENTITY u SYSTEM "gif" NDATA gif><!ENTITY u "u">', "E37 NotationUndeclared @ u gif",
+     '<!ENTITY u "u"><!ENTITY u SYSTEM "gif" NDATA gif>', (0, 0, 1)),
 ]
 
 # Name, a module, its flat text.
@@ -168,6 +186,13 @@ VALUES = [
      '<!ATTLIST a k CDATA #FIXED " x ">\n'),
     ("a value of another type is collapsed", '<!ATTLIST a k NMTOKENS "  1   - " l (x) #FIXED " x ">',
      '<!ATTLIST a k NMTOKENS "1 -">\n<!ATTLIST a l (x) #FIXED "x">\n'),
+    ("blanks of references and line ends around words are collapsed", "<!ATTLIST e k NMTOKENS '&#32;a\n\nb '>",
+     '<!ATTLIST e k NMTOKENS "a b">\n'),
+    ("a fixed value of an entity is collapsed", "<!ATTLIST e k ENTITY #FIXED ' a '>",
+     '<!ATTLIST e k ENTITY #FIXED "a">\n'),
+    ("a second definition is not read", "<!ATTLIST e k CDATA 'v' k (a|a) '&none;'>", '<!ATTLIST e k CDATA "v">\n'),
+    ("a second definition of an identifier is passed over", "<!ATTLIST e i ID #IMPLIED i ID 'v'>",
+     "<!ATTLIST e i ID #IMPLIED>\n"),
 ]
 
 
