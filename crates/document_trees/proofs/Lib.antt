@@ -1,4 +1,5 @@
 pub mod Listed
 pub mod Alone
+mod Examples
 mod Walking
 pub mod Seen
