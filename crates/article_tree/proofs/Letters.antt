@@ -1,8 +1,10 @@
 -- Characters that stand for themselves, many at once.
-use Rattle.std.proofs.Common.{◌≡◌, ◌∙◌, ℕ, ◌+◌, ◌-◌, ◌<◌, List, [], ◌∷◌, ◌++◌, length, Bool, true, false, eqb, ◌&&◌, Some, Result, Ok, refl, ap, sym, arith}
-use Rattle.std.specs.Prelude.{codes, nat_eq}
+use Rattle.std.proofs.Common.{◌≡◌, ◌∙◌, ℕ, ◌+◌, ◌-◌, ◌<◌, List, [], ◌∷◌, ◌++◌, length, take, drop, suc, Bool, true, false, eqb, ◌&&◌, ◌||◌, Some, Result, Ok, refl, ap, sym, arith}
+use Rattle.std.specs.Prelude.{codes, nat_eq, if◌then◌else◌}
+use Rattle.std.proofs.lemmas.List.{take-append-drop}
+use Rattle.article_tree.specs.Plain.{ends_run, run_len}
 use Rattle.std.specs.List.{starts_with}
-use Rattle.std.proofs.lemmas.Bool.{cond-false}
+use Rattle.std.proofs.lemmas.Bool.{cond-false, false≢true}
 use Rattle.jats_chars.specs.Classes.{is_space}
 use Rattle.dtd_scanner.specs.Walk.{over}
 use Rattle.jats_fault.specs.declared.fault.Fault.{Fault}
@@ -56,3 +58,24 @@ module _ (entities : List Entity) (deeper : Deep) (names : Names) (base : ℕ) (
       ∙ run_over (e ∷ cs) rest (at + 1) v (omega arith) are.3
       ∙ ap (λ (n : ℕ). over step n (put v (chars (e ∷ cs) (is_white (e ∷ cs)) nothing)) rest) there
       ∙ ap (λ (x : Items). over step (at + length (d ∷ e ∷ cs)) (record { opens = s.opens; items = x; spent = s.spent }) rest) (joined_assoc s.items (chars (d ∷ []) (is_space d) nothing) (chars (e ∷ cs) (is_white (e ∷ cs)) nothing))
+
+-- ---- how many
+
+or_false : (a b : Bool) → (a || b) ≡ false → (a ≡ false) × (b ≡ false)
+or_false true b e = absurd (false≢true (sym e))
+or_false false b e = (refl, e)
+
+-- the characters that are counted stand for themselves
+pub run_letters : (text : List ℕ) → AreLetters (take (run_len text) text) (drop (run_len text) text)
+unfolding run_len
+run_letters [] = tt
+run_letters (c ∷ cs) = by (run_letters cs) (ends_run c cs) refl
+  where
+    by : AreLetters (take (run_len cs) cs) (drop (run_len cs) cs) → (b : Bool) → ends_run c cs ≡ b → AreLetters (take (if b then 0 else 1 + run_len cs) (c ∷ cs)) (drop (if b then 0 else 1 + run_len cs) (c ∷ cs))
+    by later true is = tt
+    by later false is =
+        let n = run_len cs in
+        let e : 1 + n ≡ suc n = omega arith in
+        let h = or_false (eqb c 38) (eqb c 60 || starts_with nat_eq (c ∷ cs) (codes "]]>")) is in
+        let k = or_false (eqb c 60) (starts_with nat_eq (c ∷ cs) (codes "]]>")) h.1 in
+        rw e (h.0, k.0, ap (λ (t : List ℕ). starts_with nat_eq (c ∷ t) (codes "]]>")) (take-append-drop n cs) ∙ k.1, later)

@@ -1,11 +1,18 @@
 -- A stack of texts against the nested definition of reading.
-use Rattle.std.proofs.Common.{◌≡◌, ◌∙◌, ℕ, suc, ◌+◌, ◌-◌, ◌<◌, ◌≤◌, List, [], ◌∷◌, ◌++◌, length, drop, Bool, true, Result, Ok, Err, refl, ap, sym, arith, length-append, length-drop}
+use Rattle.std.proofs.Common.{◌≡◌, ◌∙◌, ℕ, suc, ◌+◌, ◌-◌, ◌<◌, ◌≤◌, List, [], ◌∷◌, ◌++◌, length, drop, Bool, true, None, Result, Ok, Err, refl, ap, sym, arith, length-append, length-drop}
 use Rattle.dtd_scanner.specs.Walk.{◌>>=◌, over}
 use Rattle.dtd_scanner.proofs.Walking.{bind_cong, bind_assoc, bind_ok, over_at, over_end}
 use Rattle.jats_fault.specs.declared.fault.Fault.{Fault}
 use Rattle.decl_set.specs.Declarations.{Entity}
+use Rattle.decl_set.specs.Values.{predefined, opening}
+use Rattle.decl_set.specs.declared.faults.ValueFault.{ValueFault}
+use Rattle.article_tree.specs.Tokens.{Token, named}
+use Rattle.article_tree.specs.Words.{Names}
+use Rattle.article_tree.specs.Taking.{first_token}
+use Rattle.article_tree.specs.Taken.{StandsAt}
+use Rattle.article_tree.specs.Stops.{Standing, standing_in, stopped, malformed}
 use Rattle.article_tree.specs.Reading.{Open, State, Article, article_step, article_by, holding, whole}
-use Rattle.article_tree.specs.InPlace.{reading_in, noted, closed_in}
+use Rattle.article_tree.specs.InPlace.{reading_in, noted, closed_in, referred_in, done_in, by_token_in}
 use Rattle.article_tree.specs.Frames.{Passage, moved, rest_of, step, from, article_from, resumed, left, IsInside}
 
 module _ (entities : List Entity) where
@@ -94,7 +101,46 @@ module _ (entities : List Entity) where
   inside p q name s room names base start =
       let size : length q.names ≡ length p.names + 1 = ap length names ∙ length-append p.names (name ∷ []) in
       let e : 32 - length p.names ≡ suc (32 - length q.names) = omega (arith, size) in
-      rw (e, base, start) (noted_opens s q.text)
-    where
-      noted_opens : (s : State) (t : List ℕ) → reading_in (suc (32 - length q.names)) entities q.names q.standing s t ≡ reading_in (suc (32 - length q.names)) entities q.names q.standing s t
-      noted_opens s t = refl
+      rw (e, base, start) refl
+
+  -- a token of a content that stands there
+  pub token_moves : (typed : Bool) (ps : List Passage) (p : Passage) (s : State) (token : Token) (next : ℕ) → p.at < length p.text → StandsAt p.text p.at token next → IsInside ps s
+      → left entities typed ps p s ≡ (done_in entities (reading_in (32 - length p.names) entities) p.names p.base p.standing p.at s token >>= λ v. left entities true ps (moved p next) v)
+  token_moves typed ps p s token next here h inside =
+      let deeper = reading_in (32 - length p.names) entities in
+      let x = done_in entities deeper p.names p.base p.standing p.at s token in
+      let n = length (rest_of p) - length h.rest in
+      content_moves typed ps p s n x here (omega (arith, h.some, h.far)) inside (ap (by_token_in entities deeper p.names p.base p.standing p.at s (rest_of p)) h.is)
+      ∙ ap (λ (m : ℕ). x >>= λ v. left entities true ps (moved p m) v) (sym h.far)
+
+  -- no token stands there
+  pub token_stops : (typed : Bool) (ps : List Passage) (p : Passage) (s : State) → p.at < length p.text → first_token (rest_of p) ≡ None → IsInside ps s → left entities typed ps p s ≡ Err (malformed p.standing p.at)
+  token_stops typed ps p s here none inside =
+      content_moves typed ps p s 1 (Err (malformed p.standing p.at)) here (omega arith) inside (ap (by_token_in entities (reading_in (32 - length p.names) entities) p.names p.base p.standing p.at s (rest_of p)) none)
+
+  -- what a token does is put, or is what a definition says
+  pub token_put : (typed : Bool) (ps : List Passage) (p : Passage) (s now : State) (token : Token) (next : ℕ) → p.at < length p.text → StandsAt p.text p.at token next → IsInside ps s
+      → done_in entities (reading_in (32 - length p.names) entities) p.names p.base p.standing p.at s token ≡ Ok now → left entities true ps (moved p next) now ≡ left entities typed ps p s
+  token_put typed ps p s now token next here h inside is =
+      sym (token_moves typed ps p s token next here h inside ∙ ap (λ (x : Result State Fault). x >>= λ v. left entities true ps (moved p next) v) is)
+
+  pub token_fails : (typed : Bool) (ps : List Passage) (p : Passage) (s : State) (token : Token) (next : ℕ) (e : Fault) → p.at < length p.text → StandsAt p.text p.at token next → IsInside ps s
+      → done_in entities (reading_in (32 - length p.names) entities) p.names p.base p.standing p.at s token ≡ Err e → left entities typed ps p s ≡ Err e
+  token_fails typed ps p s token next e here h inside is =
+      token_moves typed ps p s token next here h inside ∙ ap (λ (x : Result State Fault). x >>= λ v. left entities true ps (moved p next) v) is
+
+  -- a reference that opens: its text is read, and this one waits
+  pub reference_opens : (typed : Bool) (ps : List Passage) (p q : Passage) (s : State) (name : List ℕ) (next spent : ℕ) → p.at < length p.text → StandsAt p.text p.at (named name) next → IsInside ps s → predefined name ≡ None
+      → opening entities p.names s.spent name ≡ Ok (q.text, spent) → length p.names < 32 → q.names ≡ p.names ++ name ∷ [] → q.standing ≡ standing_in p.standing p.at name → q.base ≡ length s.opens → q.at ≡ 0
+      → left entities true (ps ++ moved p next ∷ []) q (noted (record s { spent = spent }) q.text) ≡ left entities typed ps p s
+  reference_opens typed ps p q s name next spent here h within other opens room names standing base start =
+      let deeper = reading_in (32 - length p.names) entities in
+      let now : State = record s { spent = spent } in
+      let rest = λ (v : State). left entities true ps (moved p next) v in
+      let did : done_in entities deeper p.names p.base p.standing p.at s (named name) ≡ deeper q.names q.standing now q.text =
+      ap (referred_in entities deeper p.names p.standing p.at s name) other
+      ∙ ap (λ (x : Result (List ℕ × ℕ) ValueFault). stopped p.standing p.at name x >>= λ t. deeper (p.names ++ name ∷ []) (standing_in p.standing p.at name) (record s { spent = t.1 }) t.0) opens
+      ∙ ap (λ (n : Names). deeper n (standing_in p.standing p.at name) now q.text) (sym names) ∙ ap (λ (c : Standing). deeper q.names c now q.text) (sym standing) in
+      text_opens ps (moved p next) q (noted now q.text)
+      ∙ ap (λ (x : Result State Fault). x >>= rest) (sym (did ∙ inside p q name now room names base start))
+      ∙ sym (token_moves typed ps p s (named name) next here h within)

@@ -15,3 +15,4 @@ pub mod Frames
 pub mod Held
 pub mod Outcomes
 pub mod WritingSteps
+pub mod Works

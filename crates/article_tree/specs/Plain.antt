@@ -3,7 +3,7 @@ use Rattle.std.specs.Prelude.{ℕ, ◌+◌, List, [], ◌∷◌, Bool, ◌==◌,
 use Rattle.article_tree.specs.Taking.{behind}
 use Rattle.std.specs.List.{starts_with}
 
--- whether the text begins with a character that stands for itself
+-- whether the character that the text begins with does not stand for itself: it is `<` or `&`, or `]]>` begins there
 abbrev pub ends_run : ℕ → List ℕ → Bool
 ends_run c cs = c == 38 || (c == 60 || starts_with nat_eq (c ∷ cs) (codes "]]>"))
 

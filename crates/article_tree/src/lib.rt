@@ -8,9 +8,16 @@
 //! `Taking`, `Stops`, `Reading` and `InPlace` compute the same: the first token of a text, and the node of an article or
 //! the first fault of it, with its place. The laws at the end say that what is computed agrees with the grammar, that a
 //! text is an article of one node at most, and that what is written of a writable node is read back.
+//!
+//! `write_article` gives the text of a node, without recursion. The parts of reading are calls with the contracts of their
+//! definitions: `tokens` gives the token at a place, lent from the text, `elements` does what tags do, with the values of
+//! attributes by `values`, `entities` opens a reference, `held` keeps what was read, and `stops` makes the refusals. `Works`
+//! says what a stack of texts still gives.
 #![tactic(auto)]
 
 mod elements;
+mod entities;
+mod frames;
 mod fronts;
 mod held;
 mod laws;
