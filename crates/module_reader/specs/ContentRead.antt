@@ -11,6 +11,7 @@ use Rattle.module_reader.specs.declared.refusals.Stop.TheVariants.{NoMemory as m
 use Rattle.module_reader.specs.declared.standing.Standing.{Standing}
 use Rattle.module_reader.specs.Endings.{Refuses}
 use Rattle.module_reader.specs.Stops.{refused}
+use Rattle.jats_fault.specs.declared.numbers.TheConstants as number
 
 -- the text spells a content with so many names
 abbrev pub IsOver : List ℕ → Type 0
@@ -31,8 +32,8 @@ ReadsContent text (Err fault.NoMemory) = Unit {0}
 
 -- the refusal of an element whose content has this fault
 abbrev pub ContentStops : Standing → ℕ → List ℕ → ContentFault → Stop → Type 0
-ContentStops c at name fault.GroupTooDeep stop = Refuses (refused c at 44 []) stop
-ContentStops c at name fault.Malformed stop = Refuses (refused c at 20 []) stop
-ContentStops c at name fault.PositionsOver stop = Refuses (refused c at 42 (name ∷ [])) stop
-ContentStops c at name (fault.DuplicateMixedName again) stop = Refuses (refused c at 31 (name ∷ again ∷ [])) stop
+ContentStops c at name fault.GroupTooDeep stop = Refuses (refused c at number.GROUP_TOO_DEEP []) stop
+ContentStops c at name fault.Malformed stop = Refuses (refused c at number.MALFORMED []) stop
+ContentStops c at name fault.PositionsOver stop = Refuses (refused c at number.POSITIONS_OVER (name ∷ [])) stop
+ContentStops c at name (fault.DuplicateMixedName again) stop = Refuses (refused c at number.DUPLICATE_MIXED_NAME (name ∷ again ∷ [])) stop
 ContentStops c at name fault.NoMemory stop = stop ≡ memory

@@ -5,6 +5,7 @@ use Rattle.module_reader.specs.declared.faults.ReadFault.{ReadFault}
 use Rattle.module_reader.specs.declared.faults.ReadFault.TheVariants as handed
 use Rattle.module_reader.specs.declared.refusals.Stop.{Stop}
 use Rattle.module_reader.specs.declared.refusals.Stop.TheVariants as fault
+use Rattle.jats_fault.specs.declared.numbers.TheConstants as number
 
 -- a load failed
 abbrev pub LoadFailed : {T : Type 0} → Result T Stop → Type 0
@@ -16,7 +17,7 @@ LoadFailed (Err fault.NoMemory) = ⊥
 -- the refusal of a file that is absent
 abbrev pub IsAbsence : {T : Type 0} → Result T Stop → Type 0
 IsAbsence (Ok x) = ⊥
-IsAbsence (Err (fault.Refused refusal)) = refusal.number ≡ 10
+IsAbsence (Err (fault.Refused refusal)) = refusal.number ≡ number.MODULE_ABSENT
 IsAbsence (Err fault.LoadFailed) = ⊥
 IsAbsence (Err fault.NoMemory) = ⊥
 

@@ -4,6 +4,7 @@ use Rattle.jats_fault.specs.Table.{has_number, table}
 use Rattle.jats_fault.specs.declared.fault.Fault.{Fault}
 use Rattle.module_reader.specs.declared.faults.ReadFault.{ReadFault}
 use Rattle.module_reader.specs.declared.faults.ReadFault.TheVariants as fault
+use Rattle.jats_fault.specs.declared.numbers.TheConstants as number
 
 -- a load failed
 abbrev pub LoadFailed : {T : Type 0} → Result T ReadFault → Type 0
@@ -15,7 +16,7 @@ LoadFailed (Err fault.NoMemory) = ⊥
 -- the refusal of a file that is absent
 abbrev pub IsAbsence : {T : Type 0} → Result T ReadFault → Type 0
 IsAbsence (Ok x) = ⊥
-IsAbsence (Err (fault.Refused refusal)) = refusal.number ≡ 10
+IsAbsence (Err (fault.Refused refusal)) = refusal.number ≡ number.MODULE_ABSENT
 IsAbsence (Err fault.LoadFailed) = ⊥
 IsAbsence (Err fault.NoMemory) = ⊥
 

@@ -40,6 +40,7 @@ use Rattle.declaration_bodies.specs.Entities.{entity_of}
 use Rattle.declaration_bodies.specs.Notations.{notation_of}
 use Rattle.module_reader.specs.Sources.{Source, asking}
 use Rattle.module_reader.specs.Stops.{module_text, place_in, refused, not_ended, decl_stop}
+use Rattle.jats_fault.specs.declared.numbers.TheConstants as number
 
 abbrev pub Names : Type 0
 Names = List (List ℕ)
@@ -52,28 +53,28 @@ declares c at s (Err fault) = Err (decl_stop c at fault)
 
 -- the names of a content are not too many, and a mixed content names none twice
 abbrev pub element_named : Standing → ℕ → State → List ℕ → Content → Option (List ℕ) → Result State Fault
-element_named c at s name content (Some again) = Err (refused c at 31 (name ∷ again ∷ []))
+element_named c at s name content (Some again) = Err (refused c at number.DUPLICATE_MIXED_NAME (name ∷ again ∷ []))
 element_named c at s name content None = declares c at s (with_element s.set name content)
 
 abbrev pub element_spelled : Standing → ℕ → State → List ℕ → Option Content → Result State Fault
-element_spelled c at s name None = Err (refused c at 20 [])
+element_spelled c at s name None = Err (refused c at number.MALFORMED [])
 element_spelled c at s name (Some content) =
-    if nat_lt 1024 (occurrences content) then Err (refused c at 42 (name ∷ [])) else element_named c at s name content (repeated_in content)
+    if nat_lt 1024 (occurrences content) then Err (refused c at number.POSITIONS_OVER (name ∷ [])) else element_named c at s name content (repeated_in content)
 
 abbrev pub element_read : Standing → ℕ → State → Option (List ℕ × List ℕ) → Result State Fault
-element_read c at s None = Err (refused c at 20 [])
+element_read c at s None = Err (refused c at number.MALFORMED [])
 element_read c at s (Some x) = element_spelled c at s x.0 (content_of x.1)
 
 -- no more than 64 parentheses are open, and the body has its form
 unfoldable pub element_declared : Standing → ℕ → State → List ℕ → Result State Fault
-element_declared c at s body = if nat_lt 64 (most_open 0 body) then Err (refused c at 44 []) else element_read c at s (element_of body)
+element_declared c at s body = if nat_lt 64 (most_open 0 body) then Err (refused c at number.GROUP_TOO_DEEP []) else element_read c at s (element_of body)
 
 abbrev pub counting : Standing → ℕ → State → Result (Declarations × ℕ) DeclFault → Result State Fault
 counting c at s (Ok r) = Ok (record s { set = r.0; spent = r.1 })
 counting c at s (Err fault) = Err (decl_stop c at fault)
 
 abbrev pub attributes_read : Standing → ℕ → State → Option RawAttList → Result State Fault
-attributes_read c at s None = Err (refused c at 20 [])
+attributes_read c at s None = Err (refused c at number.MALFORMED [])
 attributes_read c at s (Some raw) = counting c at s (with_attributes s.set s.spent raw)
 
 unfoldable pub attributes_declared : Standing → ℕ → State → List ℕ → Result State Fault
@@ -108,14 +109,14 @@ entity_new source names c at s e true = if is_some (text_bound s.bound e.name) t
 entity_new source names c at s e false = if is_some (entity_in s.set e.name) then Ok s else declared_by source names c at s e.name e.def
 
 abbrev pub entity_read : Source → Names → Standing → ℕ → State → Option RawEntity → Result State Fault
-entity_read source names c at s None = Err (refused c at 20 [])
+entity_read source names c at s None = Err (refused c at number.MALFORMED [])
 entity_read source names c at s (Some e) = entity_new source names c at s e e.parameter
 
 unfoldable pub entity_declared : Source → Names → Standing → ℕ → State → List ℕ → Result State Fault
 entity_declared source names c at s body = entity_read source names c at s (entity_of body)
 
 abbrev pub notation_read : Standing → ℕ → State → Option (List ℕ × Ids) → Result State Fault
-notation_read c at s None = Err (refused c at 20 [])
+notation_read c at s None = Err (refused c at number.MALFORMED [])
 notation_read c at s (Some x) = declares c at s (with_notation s.set x.0 x.1)
 
 unfoldable pub notation_declared : Standing → ℕ → State → List ℕ → Result State Fault
@@ -184,7 +185,7 @@ abbrev pub section_by : Standing → ℕ → Local → List ℕ → ℕ → Stat
 section_by c at l text len s keyword =
     if bytes_eq keyword (codes "INCLUDE") then Ok (section_opened l at s, len)
     else if bytes_eq keyword (codes "IGNORE") then ignored c at l s (ignored_end text len)
-    else Err (refused c at 20 [])
+    else Err (refused c at number.MALFORMED [])
 
 -- the start of a section, whose keyword part is expanded as a body
 abbrev pub section : Source → Names → Standing → ℕ → Local → List ℕ → ℕ → List ℕ → Result (Local × ℕ) Fault
@@ -206,7 +207,7 @@ item_by source deeper names c at l text len kind = after l len (declaration sour
 
 -- no item stands at the place
 abbrev pub scan_stop : Standing → ℕ → ScanFault → Fault
-scan_stop c at Malformed = refused c at 20 []
+scan_stop c at Malformed = refused c at number.MALFORMED []
 scan_stop c at Unclosed = not_ended c at
 
 abbrev pub item_at : Source → Deeper → Names → Standing → ℕ → Local → List ℕ → Result Item ScanFault → Result (Local × ℕ) Fault

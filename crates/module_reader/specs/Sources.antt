@@ -19,6 +19,7 @@ use Rattle.decl_set.specs.Declarations.{Declarations, none_declared}
 use Rattle.module_reader.specs.declared.standing.Standing.{Standing}
 use Rattle.module_reader.specs.declared.state.State.{State}
 use Rattle.module_reader.specs.Stops.{refusal, refused, pe_stop, decode_stop}
+use Rattle.jats_fault.specs.declared.numbers.TheConstants as number
 
 -- names of files with their bytes, or of modules with their texts
 abbrev pub Files : Type 0
@@ -50,8 +51,8 @@ decoded_by name give (Err fault) = Err (decode_stop name fault)
 
 -- what is held of a file, whose bytes may be no more than this
 abbrev pub text_held : ℕ → List ℕ → Option (List ℕ) → Result (List ℕ) Fault
-text_held limit name None = Err (refusal 10 name 0 [])
-text_held limit name (Some bytes) = if nat_lt limit (length bytes) then Err (refusal 11 name 0 []) else decoded_by name (λ text. Ok text) (text_of bytes)
+text_held limit name None = Err (refusal number.MODULE_ABSENT name 0 [])
+text_held limit name (Some bytes) = if nat_lt limit (length bytes) then Err (refusal number.MODULE_LONG name 0 []) else decoded_by name (λ text. Ok text) (text_of bytes)
 
 -- the text of a file, or why it is none
 unfoldable pub file_text : ℕ → Files → List ℕ → Result (List ℕ) Fault
@@ -64,17 +65,17 @@ with_module s name size text = Ok (record s { modules = s.modules ++ (name, text
 -- bytes that may be those of one module more
 abbrev pub measured : State → List ℕ → List ℕ → Result (State × List ℕ) Fault
 measured s name bytes =
-    if nat_lt most_bytes (length bytes) then Err (refusal 11 name 0 [])
-    else if nat_lt most_together (s.bytes + length bytes) then Err (refusal 12 name 0 [])
+    if nat_lt most_bytes (length bytes) then Err (refusal number.MODULE_LONG name 0 [])
+    else if nat_lt most_together (s.bytes + length bytes) then Err (refusal number.SET_OVER name 0 [])
     else decoded_by name (with_module s name (length bytes)) (text_of bytes)
 
 abbrev pub held_as : State → List ℕ → Option (List ℕ) → Result (State × List ℕ) Fault
-held_as s name None = Err (refusal 10 name 0 [])
+held_as s name None = Err (refusal number.MODULE_ABSENT name 0 [])
 held_as s name (Some bytes) = measured s name bytes
 
 -- a module that is not loaded yet
 unfoldable pub new_module : Source → State → List ℕ → Result (State × List ℕ) Fault
-new_module source s name = if nat_le most_modules (length s.modules) then Err (refusal 12 name 0 []) else held_as s name (held source.files name)
+new_module source s name = if nat_le most_modules (length s.modules) then Err (refusal number.SET_OVER name 0 []) else held_as s name (held source.files name)
 
 abbrev pub module_by : Source → State → List ℕ → Option (List ℕ) → Result (State × List ℕ) Fault
 module_by source s name (Some text) = Ok (s, text)
@@ -95,7 +96,7 @@ abbrev pub given : List ℕ → State × List ℕ → State
 given name r = record r.0 { bound = with_outer r.0.bound name r.1 }
 
 abbrev pub resolved : Source → Standing → ℕ → State → List ℕ → Ids → Option (List ℕ) → Result State Fault
-resolved source c at s name ids None = Err (refused c at 51 (system_of ids ∷ []))
+resolved source c at s name ids None = Err (refused c at number.PATH_ESCAPES (system_of ids ∷ []))
 resolved source c at s name ids (Some file) = module_of source s file >>= λ r. Ok (given name r)
 
 abbrev pub loaded_by : Source → Standing → ℕ → State → List ℕ → Option PeText → Result State Fault
@@ -115,7 +116,7 @@ heard source c at again s (Err fault) = Err (pe_stop c at fault)
 
 -- at most so often, and once more
 abbrev pub asking_most : {X : Type 0} → Source → Standing → ℕ → ℕ → (State → Result X PeFault) → State → Result (State × X) Fault
-asking_most source c at zero ask s = heard source c at (λ t. Err (refused c at 20 [])) s (ask s)
+asking_most source c at zero ask s = heard source c at (λ t. Err (refused c at number.MALFORMED [])) s (ask s)
 asking_most source c at (suc n) ask s = heard source c at (asking_most source c at n ask) s (ask s)
 
 -- The answer of the bindings, with all texts loaded that it wants, each when it is wanted: no more than there are entities.

@@ -12,6 +12,7 @@ use Rattle.decl_set.specs.declared.faults.DeclFault.TheVariants as decl
 use Rattle.std.specs.Fmt.{decimal}
 use Rattle.module_reader.specs.declared.standing.Inner.{Inner}
 use Rattle.module_reader.specs.declared.standing.Standing.{Standing}
+use Rattle.jats_fault.specs.declared.numbers.TheConstants as number
 
 -- a refusal by its number, with its place and details
 abbrev pub refusal : ℕ → List ℕ → ℕ → List (List ℕ) → Fault
@@ -34,8 +35,8 @@ abbrev pub refused : Standing → ℕ → ℕ → List (List ℕ) → Fault
 refused c at number details = refusal number c.inmost (place_in c at) details
 
 abbrev pub not_ended_by : Standing → ℕ → Option Inner → Fault
-not_ended_by c at None = refused c at 20 []
-not_ended_by c at (Some p) = refused c at 23 (p.name ∷ [])
+not_ended_by c at None = refused c at number.MALFORMED []
+not_ended_by c at (Some p) = refused c at number.PE_NESTING (p.name ∷ [])
 
 -- an item that begins there does not end in the text
 abbrev pub not_ended : Standing → ℕ → Fault
@@ -43,47 +44,47 @@ not_ended c at = not_ended_by c at c.inner
 
 -- what stops an expansion
 abbrev pub pe_stop : Standing → ℕ → PeFault → Fault
-pe_stop c at (pe.UndeclaredPe name) = refused c at 21 (name ∷ [])
-pe_stop c at (pe.RecursivePe name) = refused c at 22 (name ∷ [])
-pe_stop c at (pe.PeNesting name) = refused c at 23 (name ∷ [])
-pe_stop c at (pe.EntityTooDeep name) = refused c at 24 (name ∷ [])
-pe_stop c at (pe.ExpansionOver name) = refused c at 25 (name ∷ [])
-pe_stop c at (pe.NotLoaded name) = refused c at 20 []
-pe_stop c at pe.Malformed = refused c at 20 []
-pe_stop c at pe.NoMemory = refused c at 20 []
+pe_stop c at (pe.UndeclaredPe name) = refused c at number.UNDECLARED_PE (name ∷ [])
+pe_stop c at (pe.RecursivePe name) = refused c at number.RECURSIVE_PE (name ∷ [])
+pe_stop c at (pe.PeNesting name) = refused c at number.PE_NESTING (name ∷ [])
+pe_stop c at (pe.EntityTooDeep name) = refused c at number.ENTITY_TOO_DEEP (name ∷ [])
+pe_stop c at (pe.ExpansionOver name) = refused c at number.EXPANSION_OVER (name ∷ [])
+pe_stop c at (pe.NotLoaded name) = refused c at number.MALFORMED []
+pe_stop c at pe.Malformed = refused c at number.MALFORMED []
+pe_stop c at pe.NoMemory = refused c at number.MALFORMED []
 
 -- why a declaration is refused
 abbrev pub decl_stop : Standing → ℕ → DeclFault → Fault
-decl_stop c at decl.Malformed = refused c at 20 []
-decl_stop c at (decl.EntityTooDeep entity) = refused c at 24 (entity ∷ [])
-decl_stop c at (decl.ExpansionOver entity) = refused c at 25 (entity ∷ [])
-decl_stop c at (decl.EntityUndeclared entity) = refused c at 26 (entity ∷ [])
-decl_stop c at (decl.LessThanInValue name) = refused c at 27 (name ∷ [])
-decl_stop c at (decl.RecursiveEntity entity) = refused c at 28 (entity ∷ [])
-decl_stop c at (decl.DuplicateNotation name) = refused c at 29 (name ∷ [])
-decl_stop c at (decl.DuplicateElement name) = refused c at 30 (name ∷ [])
-decl_stop c at (decl.Ambiguous name p q) = refused c at 32 (name ∷ decimal p ∷ decimal q ∷ [])
-decl_stop c at (decl.IdPreset element name) = refused c at 33 (element ∷ name ∷ [])
-decl_stop c at (decl.SecondId element name) = refused c at 34 (element ∷ name ∷ [])
-decl_stop c at (decl.SecondNotation element name) = refused c at 35 (element ∷ name ∷ [])
-decl_stop c at (decl.NotationOnEmpty element name) = refused c at 36 (element ∷ name ∷ [])
-decl_stop c at (decl.NotationUndeclared owner notation) = refused c at 37 (owner ∷ notation ∷ [])
-decl_stop c at (decl.DuplicateToken element name token) = refused c at 38 (element ∷ name ∷ token ∷ [])
-decl_stop c at (decl.PresetNotInClass element name) = refused c at 39 (element ∷ name ∷ [])
-decl_stop c at (decl.ElementsOver name) = refused c at 41 (name ∷ [])
-decl_stop c at (decl.FollowsOver name) = refused c at 43 (name ∷ [])
-decl_stop c at decl.NoMemory = refused c at 20 []
+decl_stop c at decl.Malformed = refused c at number.MALFORMED []
+decl_stop c at (decl.EntityTooDeep entity) = refused c at number.ENTITY_TOO_DEEP (entity ∷ [])
+decl_stop c at (decl.ExpansionOver entity) = refused c at number.EXPANSION_OVER (entity ∷ [])
+decl_stop c at (decl.EntityUndeclared entity) = refused c at number.ENTITY_UNDECLARED (entity ∷ [])
+decl_stop c at (decl.LessThanInValue name) = refused c at number.LESS_THAN_IN_VALUE (name ∷ [])
+decl_stop c at (decl.RecursiveEntity entity) = refused c at number.RECURSIVE_ENTITY (entity ∷ [])
+decl_stop c at (decl.DuplicateNotation name) = refused c at number.DUPLICATE_NOTATION (name ∷ [])
+decl_stop c at (decl.DuplicateElement name) = refused c at number.DUPLICATE_ELEMENT (name ∷ [])
+decl_stop c at (decl.Ambiguous name p q) = refused c at number.AMBIGUOUS (name ∷ decimal p ∷ decimal q ∷ [])
+decl_stop c at (decl.IdPreset element name) = refused c at number.ID_PRESET (element ∷ name ∷ [])
+decl_stop c at (decl.SecondId element name) = refused c at number.SECOND_ID (element ∷ name ∷ [])
+decl_stop c at (decl.SecondNotation element name) = refused c at number.SECOND_NOTATION (element ∷ name ∷ [])
+decl_stop c at (decl.NotationOnEmpty element name) = refused c at number.NOTATION_ON_EMPTY (element ∷ name ∷ [])
+decl_stop c at (decl.NotationUndeclared owner notation) = refused c at number.NOTATION_UNDECLARED (owner ∷ notation ∷ [])
+decl_stop c at (decl.DuplicateToken element name token) = refused c at number.DUPLICATE_TOKEN (element ∷ name ∷ token ∷ [])
+decl_stop c at (decl.PresetNotInClass element name) = refused c at number.PRESET_NOT_IN_CLASS (element ∷ name ∷ [])
+decl_stop c at (decl.ElementsOver name) = refused c at number.ELEMENTS_OVER (name ∷ [])
+decl_stop c at (decl.FollowsOver name) = refused c at number.FOLLOWS_OVER (name ∷ [])
+decl_stop c at decl.NoMemory = refused c at number.MALFORMED []
 
 -- why the bytes of a file are no text
 abbrev pub decode_stop : List ℕ → DecodeFault → Fault
-decode_stop name (decoding.NotUtf8 byte) = refusal 13 name byte []
-decode_stop name (decoding.NotChar byte) = refusal 14 name byte []
-decode_stop name decoding.BadTextDecl = refusal 15 name 0 []
-decode_stop name decoding.EncodingOther = refusal 16 name 0 []
-decode_stop name decoding.NoMemory = refusal 15 name 0 []
+decode_stop name (decoding.NotUtf8 byte) = refusal number.NOT_UTF8 name byte []
+decode_stop name (decoding.NotChar byte) = refusal number.NOT_CHAR name byte []
+decode_stop name decoding.BadTextDecl = refusal number.BAD_TEXT_DECL name 0 []
+decode_stop name decoding.EncodingOther = refusal number.ENCODING_OTHER name 0 []
+decode_stop name decoding.NoMemory = refusal number.BAD_TEXT_DECL name 0 []
 
 -- why a text is no catalog
 abbrev pub catalog_stop : List ℕ → CatalogFault → Fault
-catalog_stop name (catalog.Malformed line) = refusal 50 name line []
-catalog_stop name (catalog.PathEscapes line) = refusal 51 name line []
-catalog_stop name catalog.NoMemory = refusal 50 name 0 []
+catalog_stop name (catalog.Malformed line) = refusal number.CATALOG_MALFORMED name line []
+catalog_stop name (catalog.PathEscapes line) = refusal number.PATH_ESCAPES name line []
+catalog_stop name catalog.NoMemory = refusal number.CATALOG_MALFORMED name 0 []

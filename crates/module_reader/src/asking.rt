@@ -21,7 +21,7 @@ use crate::state::State;
 use crate::stops::{pe_stop, refused};
 use entity_catalog::Catalog;
 use jats_chars::{NameList, Text};
-use jats_fault::Details;
+use jats_fault::{Details, numbers};
 use jats_io::Store;
 use pe_expansion::{Bindings, Budget, Opened, PeFault, literal_in, opening, plain_body_in};
 use std::alloc::Global;
@@ -149,7 +149,7 @@ fn write<S: Store>(
             Ok(None) => {}
         }
         if left == 0 {
-            return Err(refused(alloc, standing, at, 20, Details::new(alloc)));
+            return Err(refused(alloc, standing, at, numbers::MALFORMED, Details::new(alloc)));
         }
         left -= 1;
     }
@@ -295,7 +295,7 @@ pub fn open_entity<S: Store>(
             Ok(None) => {}
         }
         if left == 0 {
-            return Err(refused(alloc, standing, at, 20, Details::new(alloc)));
+            return Err(refused(alloc, standing, at, numbers::MALFORMED, Details::new(alloc)));
         }
         left -= 1;
     }

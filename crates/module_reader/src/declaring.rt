@@ -12,6 +12,7 @@ ghost use Rattle.module_reader.specs.Moves.{Moves, GoesOn};
 ghost use Rattle.module_reader.specs.Endings.{LoadFailed, IsAbsence, Refuses};
 ghost use Rattle.module_reader.specs.Reading as spec;
 ghost use Rattle.module_reader.specs.Stops as stops;
+ghost use Rattle.jats_fault.specs.declared.numbers.TheConstants as number;
 
 use crate::refusals::Stop;
 use crate::standing::Standing;
@@ -23,7 +24,7 @@ use decl_set::DeclFault;
 use declaration_bodies::{read_element, read_notation};
 use entity_catalog::Ids;
 use jats_chars::{Name, Text};
-use jats_fault::Details;
+use jats_fault::{Details, numbers};
 use pe_expansion::Budget;
 use std::alloc::Global;
 
@@ -60,7 +61,7 @@ fn naming(alloc: Global, standing: &Standing, at: usize, number: u16, name: &Nam
 
 /// The refusal of a name that stands twice in the content of an element.
 fn repeating(alloc: Global, standing: &Standing, at: usize, name: &Name, again: &Name) -> Stop
-    ensures { Refuses (stops.refused standing.now at 31 (name.now ∷ again.now ∷ [])) result }
+    ensures { Refuses (stops.refused standing.now at number.DUPLICATE_MIXED_NAME (name.now ∷ again.now ∷ [])) result }
 {
     let Ok(name) = name.text().copy(alloc) else {
         return Stop::NoMemory;
@@ -71,7 +72,7 @@ fn repeating(alloc: Global, standing: &Standing, at: usize, name: &Name, again: 
     let mut details = Details::new(alloc);
     details.add(name);
     details.add(again);
-    refused(alloc, standing, at, 31, details)
+    refused(alloc, standing, at, numbers::DUPLICATE_MIXED_NAME, details)
 }
 
 /// Why the content of an element is none that may be declared.
@@ -85,9 +86,9 @@ fn content_stop(
     ensures { ContentStops standing.now at name.now fault result }
 {
     match fault {
-        ContentFault::GroupTooDeep => no_details(alloc, standing, at, 44),
-        ContentFault::Malformed => no_details(alloc, standing, at, 20),
-        ContentFault::PositionsOver => naming(alloc, standing, at, 42, name),
+        ContentFault::GroupTooDeep => no_details(alloc, standing, at, numbers::GROUP_TOO_DEEP),
+        ContentFault::Malformed => no_details(alloc, standing, at, numbers::MALFORMED),
+        ContentFault::PositionsOver => naming(alloc, standing, at, numbers::POSITIONS_OVER, name),
         ContentFault::DuplicateMixedName(again) => repeating(alloc, standing, at, name, &again),
         ContentFault::NoMemory => Stop::NoMemory,
     }
@@ -153,10 +154,10 @@ pub fn declare_element(
     ensures goes_on { OnOk result (GoesOn state.old state.new) }
 {
     if is_too_deep(body.as_slice()) {
-        return Err(no_details(alloc, standing, at, 44));
+        return Err(no_details(alloc, standing, at, numbers::GROUP_TOO_DEEP));
     }
     match read_element(alloc, body.as_slice())? {
-        None => Err(no_details(alloc, standing, at, 20)),
+        None => Err(no_details(alloc, standing, at, numbers::MALFORMED)),
         Some((name, content)) => declare_read(alloc, standing, at, state, name, &content),
     }
 }
@@ -205,7 +206,7 @@ pub fn declare_attributes(
 {
     match parse_attlist(alloc, body) {
         Err(ListFault::NoMemory) => Err(Stop::NoMemory),
-        Err(ListFault::Malformed) => Err(no_details(alloc, standing, at, 20)),
+        Err(ListFault::Malformed) => Err(no_details(alloc, standing, at, numbers::MALFORMED)),
         Ok(raw) => put_attributes(alloc, standing, at, state, &raw),
     }
 }
@@ -249,7 +250,7 @@ pub fn declare_notation(
     ensures goes_on { OnOk result (GoesOn state.old state.new) }
 {
     match read_notation(alloc, body.as_slice())? {
-        None => Err(no_details(alloc, standing, at, 20)),
+        None => Err(no_details(alloc, standing, at, numbers::MALFORMED)),
         Some((name, ids)) => put_notation(alloc, standing, at, state, name, ids),
     }
 }

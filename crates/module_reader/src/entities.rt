@@ -19,7 +19,7 @@ use decl_set::EntityDef;
 use declaration_bodies::{RawDef, RawEntity, read_entity};
 use entity_catalog::{Catalog, Ids};
 use jats_chars::{Name, NameList, Text};
-use jats_fault::Details;
+use jats_fault::{Details, numbers};
 use jats_io::Store;
 use pe_expansion::PeText;
 use std::alloc::Global;
@@ -277,7 +277,7 @@ pub fn declare_entity<S: Store>(
     ensures goes_on { OnOk result (GoesOn state.old state.new) }
 {
     match read_entity(alloc, body.as_slice())? {
-        None => Err(refused(alloc, standing, at, 20, Details::new(alloc))),
+        None => Err(refused(alloc, standing, at, numbers::MALFORMED, Details::new(alloc))),
         Some(entity) => declare_read(alloc, store, catalog, chain, standing, at, state, entity),
     }
 }

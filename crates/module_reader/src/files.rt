@@ -12,7 +12,7 @@ use crate::loading::decoded;
 use crate::refusals::{Stop, handed_out};
 use crate::stops::refusal;
 use jats_chars::Text;
-use jats_fault::Details;
+use jats_fault::{Details, numbers};
 use jats_io::{LoadFault, Loaded, Store};
 use std::alloc::Global;
 
@@ -24,7 +24,7 @@ fn text_of_bytes(alloc: Global, name: &Text, limit: usize, bytes: &[u8]) -> Resu
     ensures absence { IsAbsence result → ⊥ }
 {
     if bytes.len() > limit {
-        return Err(refusal(alloc, 11, name, 0, Details::new(alloc)));
+        return Err(refusal(alloc, numbers::MODULE_LONG, name, 0, Details::new(alloc)));
     }
     decoded(alloc, name, bytes)
 }
@@ -47,7 +47,13 @@ pub fn text_loaded<S: Store>(
     match store.load(alloc, name, limit) {
         Err(LoadFault::Failed) => Err(Stop::LoadFailed),
         Err(LoadFault::NoMemory) => Err(Stop::NoMemory),
-        Ok(Loaded::Absent) => Err(refusal(alloc, 10, name, 0, Details::new(alloc))),
+        Ok(Loaded::Absent) => Err(refusal(
+            alloc,
+            numbers::MODULE_ABSENT,
+            name,
+            0,
+            Details::new(alloc),
+        )),
         Ok(Loaded::Bytes(bytes)) => text_of_bytes(alloc, name, limit, bytes.as_slice()),
     }
 }

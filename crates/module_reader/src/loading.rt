@@ -14,6 +14,7 @@ ghost use Rattle.module_reader.specs.Moves.{GoesOn, Moves};
 ghost use Rattle.module_reader.specs.Endings.{LoadFailed, IsAbsence, Reads, Refuses};
 ghost use Rattle.module_reader.specs.Sources as spec;
 ghost use Rattle.module_reader.specs.Stops.{refused as refused_at};
+ghost use Rattle.jats_fault.specs.declared.numbers.TheConstants as number;
 
 use crate::refusals::Stop;
 use crate::standing::Standing;
@@ -21,7 +22,7 @@ use crate::state::{Modules, State};
 use crate::stops::{decode_stop, refusal, refused};
 use entity_catalog::{Catalog, Ids, ResolveFault, resolve};
 use jats_chars::{Name, NoMemory, Text, decode};
-use jats_fault::Details;
+use jats_fault::{Details, numbers};
 use jats_io::{LoadFault, Loaded, Store};
 use pe_expansion::PeText;
 use std::alloc::Global;
@@ -122,10 +123,10 @@ fn add_module(alloc: Global, state: &mut State, name: &Text, bytes: &[u8]) -> Re
     ensures absence { IsAbsence result → ⊥ }
 {
     if bytes.len() > MOST_BYTES {
-        return Err(refusal(alloc, 11, name, 0, Details::new(alloc)));
+        return Err(refusal(alloc, numbers::MODULE_LONG, name, 0, Details::new(alloc)));
     }
     if is_over(state.bytes, bytes.len()) {
-        return Err(refusal(alloc, 12, name, 0, Details::new(alloc)));
+        return Err(refusal(alloc, numbers::SET_OVER, name, 0, Details::new(alloc)));
     }
     match decoded(alloc, name, bytes) {
         Err(fault) => Err(fault),
@@ -152,12 +153,18 @@ fn load_new<S: Store>(
     ensures adds { IfOk result (λ k. Adds state.old state.new name.now k) }
 {
     if state.modules.len() >= MOST_MODULES {
-        return Err(refusal(alloc, 12, name, 0, Details::new(alloc)));
+        return Err(refusal(alloc, numbers::SET_OVER, name, 0, Details::new(alloc)));
     }
     match store.load(alloc, name, MOST_BYTES) {
         Err(LoadFault::Failed) => Err(Stop::LoadFailed),
         Err(LoadFault::NoMemory) => Err(Stop::NoMemory),
-        Ok(Loaded::Absent) => Err(refusal(alloc, 10, name, 0, Details::new(alloc))),
+        Ok(Loaded::Absent) => Err(refusal(
+            alloc,
+            numbers::MODULE_ABSENT,
+            name,
+            0,
+            Details::new(alloc),
+        )),
         Ok(Loaded::Bytes(bytes)) => add_module(alloc, state, name, bytes.as_slice()),
     }
 }
@@ -197,14 +204,14 @@ fn system_of(alloc: Global, ids: &Ids) -> Result<Text, NoMemory>
 
 /// The refusal of an identifier that leaves the folder.
 fn escapes(alloc: Global, standing: &Standing, at: usize, ids: &Ids) -> Stop
-    ensures { Refuses (refused_at standing.now at 51 (spec.system_of ids.now ∷ [])) result }
+    ensures { Refuses (refused_at standing.now at number.PATH_ESCAPES (spec.system_of ids.now ∷ [])) result }
 {
     match system_of(alloc, ids) {
         Err(_) => Stop::NoMemory,
         Ok(system) => {
             let mut details = Details::new(alloc);
             details.add(system);
-            refused(alloc, standing, at, 51, details)
+            refused(alloc, standing, at, numbers::PATH_ESCAPES, details)
         }
     }
 }

@@ -19,7 +19,7 @@ use crate::texts::{ends_section, item_here, text_read};
 use dtd_scanner::{Item, ItemKind, ScanFault};
 use entity_catalog::Catalog;
 use jats_chars::NameList;
-use jats_fault::Details;
+use jats_fault::{Details, numbers};
 use jats_io::Store;
 use std::alloc::Global;
 
@@ -28,7 +28,13 @@ fn scan_stop(alloc: Global, standing: &Standing, at: usize, fault: ScanFault) ->
     ensures { Refuses (spec.scan_stop standing.now at fault) result }
 {
     match fault {
-        ScanFault::Malformed => refused(alloc, standing, at, 20, Details::new(alloc)),
+        ScanFault::Malformed => refused(
+            alloc,
+            standing,
+            at,
+            numbers::MALFORMED,
+            Details::new(alloc),
+        ),
         ScanFault::Unclosed => not_ended(alloc, standing, at),
     }
 }

@@ -13,7 +13,7 @@ use crate::standing::Standing;
 use crate::stops::{not_ended, refused};
 use crate::texts::text_read;
 use jats_chars::{NoMemory, Text};
-use jats_fault::Details;
+use jats_fault::{Details, numbers};
 use pe_expansion::ignored_end;
 use std::alloc::Global;
 use text_fronts::trimmed;
@@ -66,7 +66,13 @@ fn start_of(
             Some(end) => Ok(Start::Ignored(end)),
             None => Err(not_ended(alloc, standing, at)),
         },
-        Keyword::Other => Err(refused(alloc, standing, at, 20, Details::new(alloc))),
+        Keyword::Other => Err(refused(
+            alloc,
+            standing,
+            at,
+            numbers::MALFORMED,
+            Details::new(alloc),
+        )),
     }
 }
 

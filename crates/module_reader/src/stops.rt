@@ -10,13 +10,14 @@ ghost use Rattle.jats_chars.specs.declared.decoding.DecodeFault.TheVariants as d
 ghost use Rattle.entity_catalog.specs.declared.faults.CatalogFault.TheVariants as catalog;
 ghost use Rattle.pe_expansion.specs.declared.faults.PeFault.TheVariants as pe;
 ghost use Rattle.decl_set.specs.declared.faults.DeclFault.TheVariants as decl;
+ghost use Rattle.jats_fault.specs.declared.numbers.TheConstants as number;
 
 use crate::refusals::{Refusal, Stop};
 use crate::standing::Standing;
 use decl_set::DeclFault;
 use entity_catalog::CatalogFault;
 use jats_chars::{DecodeFault, Name, NoMemory, Text};
-use jats_fault::{Details, Fault, Place};
+use jats_fault::{Details, Fault, Place, numbers};
 use pe_expansion::PeFault;
 use std::alloc::Global;
 
@@ -159,11 +160,11 @@ fn ambiguous(
     first: u32,
     second: u32,
 ) -> Stop
-    ensures { Refuses (spec.refused standing.now at 32 (name.now ∷ decimal first ∷ decimal second ∷ [])) result }
+    ensures { Refuses (spec.refused standing.now at number.AMBIGUOUS (name.now ∷ decimal first ∷ decimal second ∷ [])) result }
 {
     match (decimal_text(alloc, first), decimal_text(alloc, second)) {
         (Ok(first), Ok(second)) => match three(alloc, name.text(), &first, &second) {
-            Ok(details) => refused(alloc, standing, at, 32, details),
+            Ok(details) => refused(alloc, standing, at, numbers::AMBIGUOUS, details),
             Err(_) => Stop::NoMemory,
         },
         _ => Stop::NoMemory,
@@ -175,8 +176,8 @@ pub fn not_ended(alloc: Global, standing: &Standing, at: usize) -> Stop
     ensures { Refuses (spec.not_ended standing.now at) result }
 {
     match &standing.inner {
-        None => refused(alloc, standing, at, 20, Details::new(alloc)),
-        Some(inner) => named(alloc, standing, at, 23, &inner.name),
+        None => refused(alloc, standing, at, numbers::MALFORMED, Details::new(alloc)),
+        Some(inner) => named(alloc, standing, at, numbers::PE_NESTING, &inner.name),
     }
 }
 
@@ -186,13 +187,19 @@ pub fn pe_stop(alloc: Global, standing: &Standing, at: usize, fault: PeFault) ->
     ensures memory { fault ≡ pe.NoMemory → result ≡ reading.NoMemory }
 {
     match fault {
-        PeFault::UndeclaredPe(name) => named(alloc, standing, at, 21, &name),
-        PeFault::RecursivePe(name) => named(alloc, standing, at, 22, &name),
-        PeFault::PeNesting(name) => named(alloc, standing, at, 23, &name),
-        PeFault::EntityTooDeep(name) => named(alloc, standing, at, 24, &name),
-        PeFault::ExpansionOver(name) => named(alloc, standing, at, 25, &name),
-        PeFault::NotLoaded(_) => refused(alloc, standing, at, 20, Details::new(alloc)),
-        PeFault::Malformed => refused(alloc, standing, at, 20, Details::new(alloc)),
+        PeFault::UndeclaredPe(name) => named(alloc, standing, at, numbers::UNDECLARED_PE, &name),
+        PeFault::RecursivePe(name) => named(alloc, standing, at, numbers::RECURSIVE_PE, &name),
+        PeFault::PeNesting(name) => named(alloc, standing, at, numbers::PE_NESTING, &name),
+        PeFault::EntityTooDeep(name) => named(alloc, standing, at, numbers::ENTITY_TOO_DEEP, &name),
+        PeFault::ExpansionOver(name) => named(alloc, standing, at, numbers::EXPANSION_OVER, &name),
+        PeFault::NotLoaded(_) => refused(
+            alloc,
+            standing,
+            at,
+            numbers::MALFORMED,
+            Details::new(alloc),
+        ),
+        PeFault::Malformed => refused(alloc, standing, at, numbers::MALFORMED, Details::new(alloc)),
         PeFault::NoMemory => Stop::NoMemory,
     }
 }
@@ -203,34 +210,125 @@ pub fn decl_stop(alloc: Global, standing: &Standing, at: usize, fault: DeclFault
     ensures memory { fault ≡ decl.NoMemory → result ≡ reading.NoMemory }
 {
     match fault {
-        DeclFault::Malformed => refused(alloc, standing, at, 20, Details::new(alloc)),
-        DeclFault::EntityTooDeep(entity) => named(alloc, standing, at, 24, &entity),
-        DeclFault::ExpansionOver(entity) => named(alloc, standing, at, 25, &entity),
-        DeclFault::EntityUndeclared(entity) => named(alloc, standing, at, 26, &entity),
-        DeclFault::LessThanInValue(name) => named(alloc, standing, at, 27, &name),
-        DeclFault::RecursiveEntity(entity) => named(alloc, standing, at, 28, &entity),
-        DeclFault::DuplicateNotation(name) => named(alloc, standing, at, 29, &name),
-        DeclFault::DuplicateElement(name) => named(alloc, standing, at, 30, &name),
+        DeclFault::Malformed => refused(
+            alloc,
+            standing,
+            at,
+            numbers::MALFORMED,
+            Details::new(alloc),
+        ),
+        DeclFault::EntityTooDeep(entity) => named(
+            alloc,
+            standing,
+            at,
+            numbers::ENTITY_TOO_DEEP,
+            &entity,
+        ),
+        DeclFault::ExpansionOver(entity) => named(
+            alloc,
+            standing,
+            at,
+            numbers::EXPANSION_OVER,
+            &entity,
+        ),
+        DeclFault::EntityUndeclared(entity) => named(
+            alloc,
+            standing,
+            at,
+            numbers::ENTITY_UNDECLARED,
+            &entity,
+        ),
+        DeclFault::LessThanInValue(name) => named(
+            alloc,
+            standing,
+            at,
+            numbers::LESS_THAN_IN_VALUE,
+            &name,
+        ),
+        DeclFault::RecursiveEntity(entity) => named(
+            alloc,
+            standing,
+            at,
+            numbers::RECURSIVE_ENTITY,
+            &entity,
+        ),
+        DeclFault::DuplicateNotation(name) => named(
+            alloc,
+            standing,
+            at,
+            numbers::DUPLICATE_NOTATION,
+            &name,
+        ),
+        DeclFault::DuplicateElement(name) => named(
+            alloc,
+            standing,
+            at,
+            numbers::DUPLICATE_ELEMENT,
+            &name,
+        ),
         DeclFault::Ambiguous(name, p, q) => ambiguous(alloc, standing, at, &name, p, q),
-        DeclFault::IdPreset(owner, name) => named_both(alloc, standing, at, 33, &owner, &name),
-        DeclFault::SecondId(owner, name) => named_both(alloc, standing, at, 34, &owner, &name),
+        DeclFault::IdPreset(owner, name) => named_both(
+            alloc,
+            standing,
+            at,
+            numbers::ID_PRESET,
+            &owner,
+            &name,
+        ),
+        DeclFault::SecondId(owner, name) => named_both(
+            alloc,
+            standing,
+            at,
+            numbers::SECOND_ID,
+            &owner,
+            &name,
+        ),
         DeclFault::SecondNotation(owner, name) => {
-            named_both(alloc, standing, at, 35, &owner, &name)
+            named_both(alloc, standing, at, numbers::SECOND_NOTATION, &owner, &name)
         }
         DeclFault::NotationOnEmpty(owner, name) => {
-            named_both(alloc, standing, at, 36, &owner, &name)
+            named_both(
+                alloc,
+                standing,
+                at,
+                numbers::NOTATION_ON_EMPTY,
+                &owner,
+                &name,
+            )
         }
         DeclFault::NotationUndeclared(owner, name) => {
-            named_both(alloc, standing, at, 37, &owner, &name)
+            named_both(
+                alloc,
+                standing,
+                at,
+                numbers::NOTATION_UNDECLARED,
+                &owner,
+                &name,
+            )
         }
         DeclFault::DuplicateToken(owner, name, token) => {
-            named_token(alloc, standing, at, 38, &owner, &name, &token)
+            named_token(
+                alloc,
+                standing,
+                at,
+                numbers::DUPLICATE_TOKEN,
+                &owner,
+                &name,
+                &token,
+            )
         }
         DeclFault::PresetNotInClass(owner, name) => {
-            named_both(alloc, standing, at, 39, &owner, &name)
+            named_both(
+                alloc,
+                standing,
+                at,
+                numbers::PRESET_NOT_IN_CLASS,
+                &owner,
+                &name,
+            )
         }
-        DeclFault::ElementsOver(name) => named(alloc, standing, at, 41, &name),
-        DeclFault::FollowsOver(name) => named(alloc, standing, at, 43, &name),
+        DeclFault::ElementsOver(name) => named(alloc, standing, at, numbers::ELEMENTS_OVER, &name),
+        DeclFault::FollowsOver(name) => named(alloc, standing, at, numbers::FOLLOWS_OVER, &name),
         DeclFault::NoMemory => Stop::NoMemory,
     }
 }
@@ -242,10 +340,10 @@ pub fn decode_stop(alloc: Global, name: &Text, fault: DecodeFault) -> Stop
 {
     let none = Details::new(alloc);
     match fault {
-        DecodeFault::NotUtf8(byte) => refusal(alloc, 13, name, byte, none),
-        DecodeFault::NotChar(byte) => refusal(alloc, 14, name, byte, none),
-        DecodeFault::BadTextDecl => refusal(alloc, 15, name, 0, none),
-        DecodeFault::EncodingOther => refusal(alloc, 16, name, 0, none),
+        DecodeFault::NotUtf8(byte) => refusal(alloc, numbers::NOT_UTF8, name, byte, none),
+        DecodeFault::NotChar(byte) => refusal(alloc, numbers::NOT_CHAR, name, byte, none),
+        DecodeFault::BadTextDecl => refusal(alloc, numbers::BAD_TEXT_DECL, name, 0, none),
+        DecodeFault::EncodingOther => refusal(alloc, numbers::ENCODING_OTHER, name, 0, none),
         DecodeFault::NoMemory => Stop::NoMemory,
     }
 }
@@ -257,8 +355,14 @@ pub fn catalog_stop(alloc: Global, name: &Text, fault: CatalogFault) -> Stop
 {
     let none = Details::new(alloc);
     match fault {
-        CatalogFault::Malformed(line) => refusal(alloc, 50, name, line, none),
-        CatalogFault::PathEscapes(line) => refusal(alloc, 51, name, line, none),
+        CatalogFault::Malformed(line) => refusal(
+            alloc,
+            numbers::CATALOG_MALFORMED,
+            name,
+            line,
+            none,
+        ),
+        CatalogFault::PathEscapes(line) => refusal(alloc, numbers::PATH_ESCAPES, name, line, none),
         CatalogFault::NoMemory => Stop::NoMemory,
     }
 }

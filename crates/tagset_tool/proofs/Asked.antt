@@ -6,6 +6,9 @@ use Rattle.std.proofs.lemmas.Bool.{and_parts, eqb-true}
 use Rattle.jats_fault.specs.declared.fault.Fault.{Fault}
 use Rattle.decl_set.specs.Declarations.{Declarations}
 use Rattle.module_reader.specs.Outcomes.{Reads}
+use Rattle.dtd_scanner.specs.Walk.{◌>>=◌}
+use Rattle.entity_catalog.specs.Named.{Named}
+use Rattle.module_reader.specs.Sets.{catalog_from, set_from, set_of}
 use Rattle.module_reader.specs.Sources.{Files}
 use Rattle.module_reader.specs.declared.faults.ReadFault.{ReadFault}
 use Rattle.module_reader.specs.declared.faults.ReadFault.TheVariants as reading
@@ -56,3 +59,11 @@ pub told_stopped_second : {X Y : Type 0} → (holds : Option Files) (read : File
 told_stopped_second None read other next first fault result read_first reads stops = tt
 told_stopped_second (Some files) read other next first fault result read_first reads stops =
     subst (λ r. IfOk result (λ a. after r (λ x. after (other files) (next files x)) a.status a.bytes.items)) (sym read_first) (stopped_by (other files) (next files first) fault result reads stops)
+
+-- a catalog that was read, and a set that was read with it
+pub told_read : (holds now : Option Files) (catalog : Option (List ℕ)) (entry : List ℕ) (named : Named) (result : Result Declarations ReadFault) → now ≡ holds → IfSome holds (λ files. Reads (catalog_from files catalog) (Ok named))
+    → IfSome now (λ files. Reads (set_from (record { files = files; catalog = named }) entry) result) → IfSome holds (λ files. Reads (set_of files catalog entry) result)
+told_read None now catalog entry named result same named_is reads = tt
+told_read (Some files) now catalog entry named result same named_is reads =
+    let here : Reads (set_from (record { files = files; catalog = named }) entry) result = subst (λ o. IfSome o (λ files. Reads (set_from (record { files = files; catalog = named }) entry) result)) same reads in
+    subst (λ c. Reads (c >>= λ it. set_from (record { files = files; catalog = it }) entry) result) (sym named_is) here

@@ -5,7 +5,7 @@ ghost use Rattle.module_reader.specs.Stops.{refusal};
 ghost use Rattle.tagset_tool.specs.Refusals as spec;
 
 use jats_chars::{NoMemory, Text};
-use jats_fault::{Details, Fault, Place};
+use jats_fault::{Details, Fault, Place, numbers};
 use std::alloc::Global;
 
 /// The place of what is refused in no module.
@@ -32,7 +32,7 @@ fn bare(alloc: Global, number: u16) -> Result<Fault, NoMemory>
 pub fn form_unbuilt(alloc: Global) -> Result<Fault, NoMemory>
     ensures { IfOk result (λ f. f ≡ spec.form_unbuilt) }
 {
-    bare(alloc, 19)
+    bare(alloc, numbers::FORM_UNBUILT)
 }
 
 /// A root that the first set does not declare.
@@ -44,7 +44,7 @@ pub fn root_undeclared(alloc: Global, root: &Text) -> Result<Fault, NoMemory>
     let mut details = Details::new(alloc);
     details.add(root);
     Ok(Fault {
-        number: 40,
+        number: numbers::ROOT_UNDECLARED,
         place,
         details,
     })
@@ -54,5 +54,5 @@ pub fn root_undeclared(alloc: Global, root: &Text) -> Result<Fault, NoMemory>
 pub fn output_over(alloc: Global) -> Result<Fault, NoMemory>
     ensures { IfOk result (λ f. f ≡ spec.output_over) }
 {
-    bare(alloc, 46)
+    bare(alloc, numbers::OUTPUT_OVER)
 }
