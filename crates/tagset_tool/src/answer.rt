@@ -1,6 +1,6 @@
 //! Answers: statuses with whole outputs.
 
-ghost use Rattle.std.specs.Prelude.{◌<◌, ◌^◌, Err, IfOk, IsTrue};
+ghost use Rattle.std.specs.Prelude.{◌<◌, ◌≤◌, ◌^◌, Err, IfOk, IsTrue};
 ghost use Rattle.decl_set.specs.Declarations.{Declarations};
 ghost use Rattle.jats_fault.specs.Table.{table, has_number};
 ghost use Rattle.module_reader.specs.Outcomes.{IsAbsence, StandsInTable};
@@ -46,6 +46,7 @@ pub fn stop_of(alloc: Global, fault: &ReadFault) -> Result<Answer, Stop>
     requires { StandsInTable fault.now }
     ensures stops { StopsAs fault.now result }
     ensures says { IfOk result (λ a. Says a.status a.bytes.items) }
+    ensures status { IfOk result (λ a. a.status ≤ 2) }
     ensures absence { AnswersAbsence result → IsAbsence {T = Declarations} (Err fault.now) }
 {
     match fault {

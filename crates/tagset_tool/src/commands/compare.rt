@@ -52,7 +52,8 @@ fn above_lines(alloc: Global, broken: &BrokenDecl) -> Result<Vec<u8>, NoMemory>
 }
 
 fn verdict_answer(alloc: Global, verdict: &Verdict) -> Result<Answer, NoMemory>
-    ensures { IfOk result (λ a. (a.status ≡ spec.verdict_status verdict.now) × (a.bytes.items ≡ spec.verdict_lines verdict.now)) }
+    ensures value { IfOk result (λ a. (a.status ≡ spec.verdict_status verdict.now) × (a.bytes.items ≡ spec.verdict_lines verdict.now)) }
+    ensures says { IfOk result (λ a. Says a.status a.bytes.items) }
 {
     match verdict {
         Verdict::Subset => {
@@ -89,7 +90,8 @@ fn verdict_over(
     requires root { IsSome (content_in first.now root.now) }
     requires first { IsPlain first.now }
     requires second { IsPlain second.now }
-    ensures { IfOk result (λ a. spec.IsAnswer first.now second.now root.now a.status a.bytes.items) }
+    ensures answer { IfOk result (λ a. spec.IsAnswer first.now second.now root.now a.status a.bytes.items) }
+    ensures says { IfOk result (λ a. Says a.status a.bytes.items) }
 {
     let verdict = compare(alloc, first, second, root)?;
     verdict_answer(alloc, &verdict)
@@ -104,7 +106,8 @@ fn plain_answer(
 ) -> Result<Answer, NoMemory>
     requires first { IsPlain first.now }
     requires second { IsPlain second.now }
-    ensures { IfOk result (λ a. spec.from_root first.now second.now root.now (spec.root_in first.now root.now) a.status a.bytes.items) }
+    ensures answer { IfOk result (λ a. spec.from_root first.now second.now root.now (spec.root_in first.now root.now) a.status a.bytes.items) }
+    ensures says { IfOk result (λ a. Says a.status a.bytes.items) }
 {
     match declared_root(alloc, first, root)? {
         None => {
@@ -129,7 +132,8 @@ fn compared(
     second: &DeclSet,
     root: &Text,
 ) -> Result<Answer, NoMemory>
-    ensures { IfOk result (λ a. spec.over_sets first.now second.now root.now a.status a.bytes.items) }
+    ensures answer { IfOk result (λ a. spec.over_sets first.now second.now root.now a.status a.bytes.items) }
+    ensures says { IfOk result (λ a. Says a.status a.bytes.items) }
 {
     if are_plain(first, second) {
         plain_answer(alloc, first, second, root)
