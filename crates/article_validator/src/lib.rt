@@ -10,8 +10,18 @@
 //! these lists to `IsValid` of `decl_set`, the validity of which comparisons speak.
 #![tactic(auto)]
 
+mod attributes;
+mod causes;
+mod content;
 mod fault;
+mod first;
 mod laws;
+mod link_causes;
+mod links;
+mod walk;
+mod words;
 
 pub use fault::{Invalid, InvalidCause, InvalidList};
-pub use laws::{deriving_law, filling_law, first_law, validity_law};
+pub use first::first_broken;
+pub use laws::{deriving_law, first_law, validity_law};
+pub use walk::faults;
