@@ -1,6 +1,7 @@
 pub mod Appending
 pub mod Listing
 pub mod Keeping
+pub mod Told
 pub mod Unparsed
 pub mod Deriving
 pub mod Structure

@@ -1,7 +1,9 @@
 //! The first node that does not meet its declaration.
 
-ghost use Rattle.std.specs.Prelude.{◌≡◌, Some, IfOk, option_map, option_and_then, slice_get};
+ghost use Rattle.std.specs.Prelude.{◌≡◌, ◌↔◌, Some, None, IfOk, option_map, option_and_then, slice_get};
 ghost use Rattle.attlist_merge.specs.Oddness.{first_some};
+ghost use Rattle.document_trees.specs.Trees.{EachNode};
+ghost use Rattle.decl_set.specs.Validity.{Meets};
 ghost use Rattle.decl_set.specs.Declarations.{content_in, attributes_in};
 ghost use Rattle.decl_set.specs.declared.breaks.Cause.TheVariants as cause;
 ghost use Rattle.article_validator.specs.First as spec;
@@ -159,16 +161,8 @@ fn broken_in(alloc: Global, set: &DeclSet, node: &Node) -> Result<Option<BrokenD
     }
 }
 
-/// The first node in document order that does not meet its declaration, and the first of these that holds of it: its
-/// element is not declared, the names of its children are not derived, other items stand in it than its content allows,
-/// an attribute is not declared or not in its class, or else a required one is not there (XML 1.0, 3, Element Valid, 3.1,
-/// 3.3.1 and 3.3.2). None exactly where every node meets its declaration.
 #[tactic(auto, unfolding(crate::specs::First::first_broken))]
-pub fn first_broken(
-    alloc: Global,
-    set: &DeclSet,
-    node: &Node,
-) -> Result<Option<BrokenDecl>, NoMemory>
+fn first_in(alloc: Global, set: &DeclSet, node: &Node) -> Result<Option<BrokenDecl>, NoMemory>
     ensures { IfOk result (λ o. o ≡ spec.first_broken set.now node.now) }
 {
     let mut nodes = Nodes::new(alloc, node);
@@ -179,4 +173,20 @@ pub fn first_broken(
         }
     }
     Ok(None)
+}
+
+/// The first node in document order that does not meet its declaration, and the first of these that holds of it: its
+/// element is not declared, the names of its children are not derived, other items stand in it than its content allows,
+/// an attribute is not declared or not in its class, or else a required one is not there (XML 1.0, 3, Element Valid, 3.1,
+/// 3.3.1 and 3.3.2). None exactly where every node meets its declaration.
+pub fn first_broken(
+    alloc: Global,
+    set: &DeclSet,
+    node: &Node,
+) -> Result<Option<BrokenDecl>, NoMemory>
+    ensures value { IfOk result (λ o. o ≡ spec.first_broken set.now node.now) }
+    ensures none { IfOk result (λ o. (o ≡ None) ↔ EachNode (Meets set.now) node.now) }
+{
+    let _ = set.count();
+    first_in(alloc, set, node)
 }

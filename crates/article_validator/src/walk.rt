@@ -1,10 +1,11 @@
 //! All that is wrong in an article.
 
-ghost use Rattle.std.specs.Prelude.{◌≡◌, ◌++◌, [], suc, map, OnOk, IfOk, bytes_eq};
+ghost use Rattle.std.specs.Prelude.{◌≡◌, ◌↔◌, ◌++◌, [], suc, map, OnOk, IfOk, bytes_eq};
 ghost use Rattle.indexmap.specs.IndexSet.{insert_all};
 ghost use Rattle.document_trees.specs.Trees.{nodes_in};
+ghost use Rattle.decl_set.specs.Validity.{IsValid};
 ghost use Rattle.article_validator.specs.Faults as spec;
-ghost use Rattle.article_validator.specs.Links.{ids_in, links_in};
+ghost use Rattle.article_validator.specs.Links.{AreLinked, ids_in, links_in};
 ghost use Rattle.article_validator.specs.Listing.{kept_causes, kept_from};
 ghost use Rattle.article_validator.specs.Structure.{causes_in};
 
@@ -75,17 +76,7 @@ fn put_nodes(
     Ok(())
 }
 
-/// All that is wrong in an article, in document order: the nodes are numbered from 1, and each gives its causes in the
-/// order of `InvalidCause`, attributes in order and missing ones in order of declaration, and then those of its IDs, its
-/// references to IDs and its names of entities (XML 1.0, 3, Element Valid, 3.1, 3.3.1 and 3.3.2). At an element that is
-/// not declared nothing else is listed, and its attributes give no ID. First of all stands `Root` where the top element
-/// has another name than the root.
-pub fn faults(
-    alloc: Global,
-    set: &DeclSet,
-    root: &Text,
-    node: &Node,
-) -> Result<InvalidList, NoMemory>
+fn list_of(alloc: Global, set: &DeclSet, root: &Text, node: &Node) -> Result<InvalidList, NoMemory>
     ensures { IfOk result (λ list. list ≡ spec.fault_list set.now root.now node.now) }
 {
     let all = ids_of(alloc, set, node)?;
@@ -93,4 +84,25 @@ pub fn faults(
     put_root(alloc, &mut list, root, node)?;
     put_nodes(alloc, &mut list, node, set, &all)?;
     Ok(list)
+}
+
+/// All that is wrong in an article, in document order: the nodes are numbered from 1, and each gives its causes in the
+/// order of `InvalidCause`, attributes in order and missing ones in order of declaration, and then those of its IDs, its
+/// references to IDs and its names of entities (XML 1.0, 3, Element Valid, 3.1, 3.3.1 and 3.3.2). At an element that is
+/// not declared nothing else is listed, and its attributes give no ID. First of all stands `Root` where the top element
+/// has another name than the root.
+///
+/// The list is empty exactly where the article is valid from the root, no ID repeats, each reference has its ID, and each
+/// name of an entity is that of an unparsed one.
+pub fn faults(
+    alloc: Global,
+    set: &DeclSet,
+    root: &Text,
+    node: &Node,
+) -> Result<InvalidList, NoMemory>
+    ensures value { IfOk result (λ list. list ≡ spec.fault_list set.now root.now node.now) }
+    ensures none { IfOk result (λ list. (list ≡ []) ↔ (IsValid set.now root.now node.now × AreLinked set.now node.now)) }
+{
+    let _ = set.count();
+    list_of(alloc, set, root, node)
 }
