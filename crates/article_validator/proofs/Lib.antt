@@ -1,3 +1,8 @@
+pub mod Appending
+pub mod Listing
+pub mod Keeping
+pub mod Told
+pub mod Unparsed
 pub mod Deriving
 pub mod Structure
 pub mod Differing

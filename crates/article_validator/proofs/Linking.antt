@@ -21,9 +21,9 @@ none_repeated true x t = cc
 none_repeated false x t = refl
 
 -- the one ID that a link may be
-one_fresh : (seen : List (List ℕ)) (l : Link) (k : AttType) (value : List ℕ) → flat_map (repeated seen l) (ids_by k value) ≡ [] → IsTrue (fresh seen (ids_by k value))
+one_fresh : (seen : List (List ℕ)) (l : Link) (k : AttType) (value : List ℕ) → flat_map (repeated seen l.name) (ids_by k value) ≡ [] → IsTrue (fresh seen (ids_by k value))
 one_fresh seen l kind.Cdata value e = refl
-one_fresh seen l kind.Id value e = and_of (not (among seen value)) true (repeated_none (among seen value) _ (both_empty (repeated seen l value) [] e).0) refl
+one_fresh seen l kind.Id value e = and_of (not (among seen value)) true (repeated_none (among seen value) _ (both_empty (repeated seen l.name value) [] e).0) refl
 one_fresh seen l kind.Idref value e = refl
 one_fresh seen l kind.Idrefs value e = refl
 one_fresh seen l kind.Entity value e = refl
@@ -33,9 +33,9 @@ one_fresh seen l kind.Nmtokens value e = refl
 one_fresh seen l (kind.Notation names) value e = refl
 one_fresh seen l (kind.Enumeration tokens) value e = refl
 
-fresh_one : (seen : List (List ℕ)) (l : Link) (k : AttType) (value : List ℕ) → IsTrue (fresh seen (ids_by k value)) → flat_map (repeated seen l) (ids_by k value) ≡ []
+fresh_one : (seen : List (List ℕ)) (l : Link) (k : AttType) (value : List ℕ) → IsTrue (fresh seen (ids_by k value)) → flat_map (repeated seen l.name) (ids_by k value) ≡ []
 fresh_one seen l kind.Cdata value t = refl
-fresh_one seen l kind.Id value t = empty_both (repeated seen l value) [] (none_repeated (among seen value) _ (of_and (not (among seen value)) true t).0) refl
+fresh_one seen l kind.Id value t = empty_both (repeated seen l.name value) [] (none_repeated (among seen value) _ (of_and (not (among seen value)) true t).0) refl
 fresh_one seen l kind.Idref value t = refl
 fresh_one seen l kind.Idrefs value t = refl
 fresh_one seen l kind.Entity value t = refl
@@ -63,13 +63,13 @@ pub right_of_none : (set : Declarations) (all seen : List (List ℕ)) (links : L
 right_of_none set all seen [] e = record { ids = refl; targets = refl; entities = refl }
 right_of_none set all seen (l ∷ ls) e =
     let h = both_empty (link_causes set all seen l) (links_causes set all (seen ++ ids_of l) ls) e in
-    let k = both_empty (flat_map (repeated seen l) (ids_of l)) (flat_map (untargeted all l) (targets_of l) ++ flat_map (unnamed set l) (entities_of l)) h.0 in
-    let m = both_empty (flat_map (untargeted all l) (targets_of l)) (flat_map (unnamed set l) (entities_of l)) k.1 in
+    let k = both_empty (flat_map (repeated seen l.name) (ids_of l)) (flat_map (untargeted all l.name) (targets_of l) ++ flat_map (unnamed set l.name) (entities_of l)) h.0 in
+    let m = both_empty (flat_map (untargeted all l.name) (targets_of l)) (flat_map (unnamed set l.name) (entities_of l)) k.1 in
     let later = right_of_none set all (seen ++ ids_of l) ls h.1 in
     record {
       ids = rw (fresh_append seen (ids_of l) (flat_map ids_of ls)) (and_of (fresh seen (ids_of l)) (fresh (seen ++ ids_of l) (flat_map ids_of ls)) (one_fresh seen l l.kind l.value k.0) later.ids);
-      targets = all_join (among all) (targets_of l) (flat_map targets_of ls) (all_of_none (untargeted all l) (among all) (λ x n. empty_unless (among all x) _ n) (targets_of l) m.0) later.targets;
-      entities = all_join (is_unparsed set) (entities_of l) (flat_map entities_of ls) (all_of_none (unnamed set l) (is_unparsed set) (λ x n. empty_unless (is_unparsed set x) _ n) (entities_of l) m.1) later.entities;
+      targets = all_join (among all) (targets_of l) (flat_map targets_of ls) (all_of_none (untargeted all l.name) (among all) (λ x n. empty_unless (among all x) _ n) (targets_of l) m.0) later.targets;
+      entities = all_join (is_unparsed set) (entities_of l) (flat_map entities_of ls) (all_of_none (unnamed set l.name) (is_unparsed set) (λ x n. empty_unless (is_unparsed set x) _ n) (entities_of l) m.1) later.entities;
     }
 
 pub none_of_right : (set : Declarations) (all seen : List (List ℕ)) (links : List Link) → AreRight set all seen links → links_causes set all seen links ≡ []
@@ -79,10 +79,10 @@ none_of_right set all seen (l ∷ ls) right =
     let targets = all_part (among all) (targets_of l) (flat_map targets_of ls) right.targets in
     let entities = all_part (is_unparsed set) (entities_of l) (flat_map entities_of ls) right.entities in
     empty_both (link_causes set all seen l) (links_causes set all (seen ++ ids_of l) ls)
-    (empty_both (flat_map (repeated seen l) (ids_of l)) (flat_map (untargeted all l) (targets_of l) ++ flat_map (unnamed set l) (entities_of l)) (fresh_one seen l l.kind l.value ids.0)
-    (empty_both (flat_map (untargeted all l) (targets_of l)) (flat_map (unnamed set l) (entities_of l))
-    (none_of_all (untargeted all l) (among all) (λ x t. unless_empty (among all x) _ t) (targets_of l) targets.0)
-    (none_of_all (unnamed set l) (is_unparsed set) (λ x t. unless_empty (is_unparsed set x) _ t) (entities_of l) entities.0)))
+    (empty_both (flat_map (repeated seen l.name) (ids_of l)) (flat_map (untargeted all l.name) (targets_of l) ++ flat_map (unnamed set l.name) (entities_of l)) (fresh_one seen l l.kind l.value ids.0)
+    (empty_both (flat_map (untargeted all l.name) (targets_of l)) (flat_map (unnamed set l.name) (entities_of l))
+    (none_of_all (untargeted all l.name) (among all) (λ x t. unless_empty (among all x) _ t) (targets_of l) targets.0)
+    (none_of_all (unnamed set l.name) (is_unparsed set) (λ x t. unless_empty (is_unparsed set x) _ t) (entities_of l) entities.0)))
     (none_of_right set all (seen ++ ids_of l) ls (record { ids = ids.1; targets = targets.1; entities = entities.1 }))
 
 -- ---- nodes in order

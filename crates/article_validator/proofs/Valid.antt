@@ -69,6 +69,7 @@ valid_without_faults set root node kept = (to, from)
           (sym ((bytes_eq-Decides root node.name).0 named), listed_each (Meets set) node k.0),
           record { ids = (fresh_differ [] (all_ids set node) links.0).0; nodes = links.1 },
         )
+
     from : IsValid set root node × AreLinked set node → fault_list set root node ≡ []
     from v =
         empty_both (root_faults root node) (faults_from set (all_ids set node) 1 [] (nodes_in node))

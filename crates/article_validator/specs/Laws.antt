@@ -2,14 +2,13 @@
 use Rattle.std.specs.Prelude.{◌≡◌, ◌↔◌, ℕ, List, [], None, IsTrue}
 use Rattle.content_models.specs.declared.content.Content.{Content}
 use Rattle.content_models.specs.Model.{Chars, Derives}
-use Rattle.document_trees.specs.Trees.{Node, EachNode, IsDocument}
+use Rattle.document_trees.specs.Trees.{Node, EachNode}
 use Rattle.position_automata.specs.Automata.{IsDeterministic}
 use Rattle.decl_set.specs.Asked.{IsKept}
 use Rattle.decl_set.specs.Declarations.{Declarations}
 use Rattle.decl_set.specs.Validity.{Meets, IsValid}
 use Rattle.article_validator.specs.Deriving.{is_derived}
 use Rattle.article_validator.specs.Faults.{fault_list}
-use Rattle.article_validator.specs.Filling.{filled}
 use Rattle.article_validator.specs.First.{first_broken}
 use Rattle.article_validator.specs.Links.{AreLinked}
 
@@ -24,11 +23,3 @@ ValidWithoutFaults = (set : Declarations) (root : List ℕ) (node : Node) → Is
 -- no node is broken exactly where every node meets its declaration
 abbrev pub NoneBroken : Type 0
 NoneBroken = (set : Declarations) (node : Node) → IsKept set → (first_broken set node ≡ None) ↔ EachNode (Meets set) node
-
--- a document with its defaults is valid where it was, and a document
-abbrev pub FilledValid : Type 0
-FilledValid = (set : Declarations) (root : List ℕ) (node : Node) → IsKept set → IsDocument node → IsValid set root node → IsValid set root (filled set node) × IsDocument (filled set node)
-
--- filling again changes nothing
-abbrev pub FilledOnce : Type 0
-FilledOnce = (set : Declarations) (node : Node) → IsKept set → filled set (filled set node) ≡ filled set node

@@ -1,7 +1,7 @@
 pub mod Deriving
 pub mod Faults
-pub mod Filling
 pub mod First
 pub mod Laws
 pub mod Links
+pub mod Listing
 pub mod Structure

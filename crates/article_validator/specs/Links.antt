@@ -119,19 +119,19 @@ ids_in set node = flat_map ids_of (links_in set node)
 abbrev pub all_ids : Declarations → Node → List (List ℕ)
 all_ids set node = flat_map (ids_in set) (nodes_in node)
 
--- ---- what is wrong with a link, where these IDs came before it and all of these are in the article
+-- ---- what is wrong with a link of this name, where these IDs came before it and all of these are in the article
 
-abbrev pub repeated : List (List ℕ) → Link → List ℕ → List InvalidCause
-repeated seen l id = if among seen id then cause.RepeatedId l.name id ∷ [] else []
+abbrev pub repeated : List (List ℕ) → List ℕ → List ℕ → List InvalidCause
+repeated seen name id = if among seen id then cause.RepeatedId name id ∷ [] else []
 
-abbrev pub untargeted : List (List ℕ) → Link → List ℕ → List InvalidCause
-untargeted all l target = if among all target then [] else cause.NoTarget l.name target ∷ []
+abbrev pub untargeted : List (List ℕ) → List ℕ → List ℕ → List InvalidCause
+untargeted all name target = if among all target then [] else cause.NoTarget name target ∷ []
 
-abbrev pub unnamed : Declarations → Link → List ℕ → List InvalidCause
-unnamed set l entity = if is_unparsed set entity then [] else cause.NoEntity l.name entity ∷ []
+abbrev pub unnamed : Declarations → List ℕ → List ℕ → List InvalidCause
+unnamed set name entity = if is_unparsed set entity then [] else cause.NoEntity name entity ∷ []
 
 abbrev pub link_causes : Declarations → List (List ℕ) → List (List ℕ) → Link → List InvalidCause
-link_causes set all seen l = flat_map (repeated seen l) (ids_of l) ++ (flat_map (untargeted all l) (targets_of l) ++ flat_map (unnamed set l) (entities_of l))
+link_causes set all seen l = flat_map (repeated seen l.name) (ids_of l) ++ (flat_map (untargeted all l.name) (targets_of l) ++ flat_map (unnamed set l.name) (entities_of l))
 
 -- what is wrong with links in order, each behind those before it
 abbrev pub links_causes : Declarations → List (List ℕ) → List (List ℕ) → List Link → List InvalidCause

@@ -1,6 +1,6 @@
 //! Laws of the definitions.
 
-ghost use Rattle.article_validator.specs.Laws.{DerivedByStates, ValidWithoutFaults, NoneBroken, FilledValid, FilledOnce};
+ghost use Rattle.article_validator.specs.Laws.{DerivedByStates, ValidWithoutFaults, NoneBroken};
 
 /// Going through the states of a deterministic content tells what it derives.
 pub fn deriving_law()
@@ -16,10 +16,4 @@ pub fn validity_law()
 /// No node is broken exactly where every node meets its declaration.
 pub fn first_law()
     ensures { NoneBroken }
-{}
-
-/// With its defaults a valid document is valid, and filling again changes nothing.
-pub fn filling_law()
-    ensures valid { FilledValid }
-    ensures once { FilledOnce }
 {}

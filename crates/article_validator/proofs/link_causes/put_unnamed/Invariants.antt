@@ -1,0 +1,14 @@
+use Rattle.std.proofs.Common.{◌≡◌, ◌++◌, map, length}
+use Rattle.std.specs.List.{flat_map}
+use Rattle.attribute_types.specs.Spacing.{collapsed, words_in}
+use Rattle.article_validator.specs.Faults.{invalid}
+use Rattle.article_validator.specs.Links.{unnamed}
+use Rattle.article_validator.proofs.link_causes.put_unnamed.Given as goal
+
+abbrev pub invariant-loop-word : goal.invariant-loop-word
+invariant-loop-word l =
+    l.list ++ map (invalid l.number l.node.name) (flat_map (unnamed l.set l.name) (words_in l.rest))
+    ≡ l.fn.list ++ map (invalid l.number l.node.name) (flat_map (unnamed l.set l.name) (words_in (collapsed l.fn.value)))
+
+abbrev pub decreases-loop-word : goal.decreases-loop-word
+decreases-loop-word l = length l.rest

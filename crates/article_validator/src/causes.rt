@@ -1,0 +1,205 @@
+//! What is wrong in one node by its own declaration, listed.
+
+ghost use Rattle.std.specs.Prelude.{◌≡◌, ◌++◌, ◌∷◌, [], Some, map, OnOk, IfOk, slice_get};
+ghost use Rattle.std.specs.List.{flat_map};
+ghost use Rattle.std.specs.Option.{option_map_or};
+ghost use Rattle.document_trees.specs.Seen.{items_of};
+ghost use Rattle.decl_set.specs.Declarations.{content_in, attributes_in};
+ghost use Rattle.article_validator.specs.Faults.{invalid};
+ghost use Rattle.article_validator.specs.Listing.{one_or_none};
+ghost use Rattle.article_validator.specs.Structure as spec;
+
+use crate::attributes::{is_given, list_or};
+use crate::content::{derives, is_text_allowed};
+use crate::{Invalid, InvalidCause, InvalidList};
+use attlist_merge::AttList;
+use attribute_types::in_class;
+use content_models::{Content, text_kind};
+use decl_set::DeclSet;
+use document_trees::{Item, Node};
+use jats_chars::{Name, NoMemory, Text};
+use position_automata::Automaton;
+use std::alloc::Global;
+
+/// Puts a cause at a node, where there is one, behind the others.
+pub fn put(
+    alloc: Global,
+    list: &mut InvalidList,
+    number: u64,
+    node: &Node,
+    cause: Option<InvalidCause>,
+) -> Result<(), NoMemory>
+    ensures { OnOk result (list.new ≡ list.old ++ map (invalid number node.now.name) (one_or_none cause)) }
+{
+    match cause {
+        None => Ok(()),
+        Some(cause) => {
+            let element = node.name.copy(alloc)?;
+            list.push(Invalid {
+                node: number,
+                element,
+                cause,
+            })
+        }
+    }
+}
+
+fn specified_cause(
+    alloc: Global,
+    atts: &AttList,
+    att: &(Name, Text),
+) -> Result<Option<InvalidCause>, NoMemory>
+    ensures { IfOk result (λ o. one_or_none o ≡ spec.specified_causes atts.now att.now) }
+{
+    match atts.definition_of(&att.0) {
+        None => Ok(Some(InvalidCause::AttUndeclared(att.0.copy(alloc)?))),
+        Some(definition) => {
+            if in_class(&definition.class, &att.1) {
+                Ok(None)
+            } else {
+                Ok(Some(InvalidCause::Value(att.0.copy(alloc)?)))
+            }
+        }
+    }
+}
+
+fn put_specified(
+    alloc: Global,
+    list: &mut InvalidList,
+    number: u64,
+    node: &Node,
+    atts: &AttList,
+) -> Result<(), NoMemory>
+    ensures { OnOk result (list.new ≡ list.old ++ map (invalid number node.now.name) (flat_map (spec.specified_causes atts.now) node.now.atts)) }
+{
+    let mut rest = node.atts.as_slice();
+    while let Some((att, after)) = rest.split_first() {
+        let cause = specified_cause(alloc, atts, att)?;
+        put(alloc, list, number, node, cause)?;
+        rest = after;
+    }
+    Ok(())
+}
+
+fn missing_cause(
+    alloc: Global,
+    atts: &AttList,
+    node: &Node,
+    at: usize,
+) -> Result<Option<InvalidCause>, NoMemory>
+    ensures { IfOk result (λ o. one_or_none o ≡ option_map_or (spec.missing_causes node.now.atts) (slice_get atts.now at) []) }
+{
+    match atts.get(at) {
+        None => Ok(None),
+        Some((name, definition)) => {
+            if is_given(node.atts.as_slice(), name, definition) {
+                Ok(None)
+            } else {
+                Ok(Some(InvalidCause::Missing(name.copy(alloc)?)))
+            }
+        }
+    }
+}
+
+fn put_missing(
+    alloc: Global,
+    list: &mut InvalidList,
+    number: u64,
+    node: &Node,
+    atts: &AttList,
+) -> Result<(), NoMemory>
+    ensures { OnOk result (list.new ≡ list.old ++ map (invalid number node.now.name) (flat_map (spec.missing_causes node.now.atts) atts.now)) }
+{
+    for at in 0..atts.len() {
+        let cause = missing_cause(alloc, atts, node, at)?;
+        put(alloc, list, number, node, cause)?;
+    }
+    Ok(())
+}
+
+fn content_cause(automaton: &Automaton, items: &[Item]) -> Option<InvalidCause>
+    ensures { one_or_none result ≡ spec.content_causes automaton.now (items_of items.now) }
+{
+    if derives(automaton, items) {
+        None
+    } else {
+        Some(InvalidCause::Content)
+    }
+}
+
+fn text_cause(content: &Content, items: &[Item]) -> Option<InvalidCause>
+    ensures { one_or_none result ≡ spec.text_causes content.now (items_of items.now) }
+{
+    if is_text_allowed(text_kind(content), items) {
+        None
+    } else {
+        Some(InvalidCause::Text)
+    }
+}
+
+fn put_attributes(
+    alloc: Global,
+    list: &mut InvalidList,
+    number: u64,
+    node: &Node,
+    atts: &AttList,
+) -> Result<(), NoMemory>
+    ensures { OnOk result (list.new ≡ list.old ++ map (invalid number node.now.name) (spec.attribute_causes atts.now node.now.atts)) }
+{
+    put_specified(alloc, list, number, node, atts)?;
+    put_missing(alloc, list, number, node, atts)
+}
+
+fn put_content(
+    alloc: Global,
+    list: &mut InvalidList,
+    number: u64,
+    node: &Node,
+    content: &Content,
+    automaton: &Automaton,
+) -> Result<(), NoMemory>
+    requires { automaton.now ≡ content.now }
+    ensures { OnOk result (list.new ≡ list.old ++ map (invalid number node.now.name) (spec.content_causes content.now node.now.items ++ spec.text_causes content.now node.now.items)) }
+{
+    let cause = content_cause(automaton, node.items.as_slice());
+    put(alloc, list, number, node, cause)?;
+    let cause = text_cause(content, node.items.as_slice());
+    put(alloc, list, number, node, cause)
+}
+
+fn put_declared(
+    alloc: Global,
+    list: &mut InvalidList,
+    number: u64,
+    node: &Node,
+    content: &Content,
+    automaton: &Automaton,
+    atts: &AttList,
+) -> Result<(), NoMemory>
+    requires { automaton.now ≡ content.now }
+    ensures { OnOk result (list.new ≡ list.old ++ map (invalid number node.now.name) (spec.causes_by (Some content.now) atts.now node.now)) }
+{
+    put_content(alloc, list, number, node, content, automaton)?;
+    put_attributes(alloc, list, number, node, atts)
+}
+
+/// Puts the causes of a node by its own declaration behind the others.
+pub fn put_causes(
+    alloc: Global,
+    list: &mut InvalidList,
+    number: u64,
+    set: &DeclSet,
+    node: &Node,
+) -> Result<(), NoMemory>
+    ensures { OnOk result (list.new ≡ list.old ++ map (invalid number node.now.name) (spec.causes_by (content_in set.now node.now.name) (attributes_in set.now node.now.name) node.now)) }
+{
+    let none = AttList::new(alloc);
+    let atts = list_or(set.atts_of(&node.name), &none);
+    match set.content_of(&node.name) {
+        None => put(alloc, list, number, node, Some(InvalidCause::Undeclared)),
+        Some(content) => match set.automaton_of(&node.name) {
+            None => Ok(()),
+            Some(automaton) => put_declared(alloc, list, number, node, content, automaton, atts),
+        },
+    }
+}
