@@ -1,10 +1,10 @@
 -- Lists to whose end parts are put in turn.
-use Rattle.std.proofs.Common.{◌≡◌, ◌∙◌, ℕ, ◌+◌, ◌≤◌, List, [], ◌∷◌, ◌++◌, map, drop, length, refl, sym, ap, Some, None, slice_get, append_assoc}
+use Rattle.std.proofs.Common.{◌≡◌, ◌∙◌, ℕ, ◌+◌, List, [], ◌++◌, map, drop, refl, sym, ap, Some, None, slice_get, append_assoc}
 use Rattle.std.proofs.lemmas.List.{map-append}
 use Rattle.std.specs.Prelude.{Option, Result, Ok, Err, OnOk}
 use Rattle.std.specs.List.{flat_map}
 use Rattle.std.specs.Option.{option_map_or}
-use Rattle.attlist_merge.proofs.Turns.{drop_step, drop_past, drop_all}
+use Rattle.attlist_merge.proofs.Turns.{drop_step, drop_past}
 
 module _ {X Y : Type 0} (g : X → Y) where
   -- a part put behind the list goes from what is to come to what stands there

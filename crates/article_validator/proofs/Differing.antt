@@ -1,6 +1,6 @@
 -- Texts that differ, told one behind the other.
-use Rattle.std.proofs.Common.{◌≡◌, append-nil, ℕ, Bool, true, false, ◌&&◌, ◌||◌, not, List, [], ◌∷◌, ◌++◌, refl, sym, ap, subst, IsTrue, bytes_eq, append_assoc}
-use Rattle.std.specs.List.{AllByRecursion, list_any}
+use Rattle.std.proofs.Common.{◌≡◌, append-nil, ℕ, Bool, true, false, ◌&&◌, ◌||◌, not, List, [], ◌∷◌, ◌++◌, refl, sym, subst, IsTrue, bytes_eq, append_assoc}
+use Rattle.std.specs.List.{AllByRecursion}
 use Rattle.std.proofs.lemmas.Slice.Eq.{bytes_eq-Decides}
 use Rattle.attribute_types.specs.Classes.{among}
 use Rattle.article_validator.specs.Links.{Differ}

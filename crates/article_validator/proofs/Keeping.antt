@@ -7,7 +7,6 @@ use Rattle.document_trees.specs.Trees.{Node, nodes_in}
 use Rattle.attribute_types.specs.Classes.{among}
 use Rattle.decl_set.specs.Declarations.{Declarations}
 use Rattle.article_validator.specs.declared.fault.Invalid.{Invalid}
-use Rattle.article_validator.specs.declared.fault.InvalidCause.{InvalidCause}
 use Rattle.article_validator.specs.declared.fault.InvalidCause.TheVariants as cause
 use Rattle.article_validator.specs.Faults.{invalid, faults_from, root_faults, fault_list}
 use Rattle.article_validator.specs.Links.{Link, all_ids, ids_in, ids_of, targets_of, entities_of, repeated, untargeted, unnamed, link_causes, links_causes, links_in}

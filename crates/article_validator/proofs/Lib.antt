@@ -9,3 +9,4 @@ pub mod Differing
 pub mod Linking
 pub mod Valid
 pub mod Unbroken
+pub mod Filled

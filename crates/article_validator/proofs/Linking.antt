@@ -1,14 +1,13 @@
 -- Nothing is wrong with links exactly where they are right.
-use Rattle.std.proofs.Common.{◌≡◌, ℕ, suc, Bool, true, false, ◌&&◌, not, cond, List, [], ◌∷◌, ◌++◌, map, Some, None, refl, sym, ap, subst, IsTrue, ◌∙◌}
+use Rattle.std.proofs.Common.{◌≡◌, ℕ, Bool, true, false, not, cond, List, [], ◌∷◌, ◌++◌, refl, subst, IsTrue}
 use Rattle.std.specs.List.{flat_map, list_all, AllByRecursion}
 use Rattle.document_trees.specs.Trees.{Node}
 use Rattle.attribute_types.specs.Classes.{among}
 use Rattle.attribute_types.specs.declared.types.AttType.{AttType}
 use Rattle.attribute_types.specs.declared.types.AttType.TheVariants as kind
 use Rattle.decl_set.specs.Declarations.{Declarations}
-use Rattle.article_validator.specs.Links.{Link, Differ, IsLinked, links_in, ids_in, ids_of, ids_by, targets_of, entities_of, is_unparsed, repeated, untargeted, unnamed, link_causes, links_causes}
+use Rattle.article_validator.specs.Links.{Link, IsLinked, links_in, ids_in, ids_of, ids_by, targets_of, entities_of, is_unparsed, repeated, untargeted, unnamed, link_causes, links_causes}
 use Rattle.article_validator.specs.declared.fault.InvalidCause.{InvalidCause}
-use Rattle.article_validator.specs.declared.fault.InvalidCause.TheVariants as cause
 use Rattle.article_validator.proofs.Differing.{fresh, fresh_append, and_of, of_and}
 use Rattle.article_validator.proofs.Structure.{both_empty, empty_both, empty_unless, unless_empty, all_of_none, none_of_all}
 

@@ -1,15 +1,15 @@
 -- Nothing is wrong in a node by its declaration exactly where it meets it.
-use Rattle.std.proofs.Common.{◌≡◌, ℕ, Bool, true, false, ◌&&◌, cond, List, [], ◌∷◌, ◌++◌, Some, None, refl, sym, ap, subst, IsTrue}
+use Rattle.std.proofs.Common.{◌≡◌, Bool, true, false, ◌&&◌, cond, List, [], ◌∷◌, ◌++◌, Some, None, refl, IsTrue}
 use Rattle.std.specs.Prelude.{Option}
 use Rattle.std.specs.List.{flat_map, list_all}
 use Rattle.std.specs.Option.{option_map_or}
 use Rattle.content_models.specs.declared.content.Content.{Content}
 use Rattle.content_models.specs.Kinds.{text_kind}
-use Rattle.document_trees.specs.Trees.{Attribute, Items, Node, child_names}
+use Rattle.document_trees.specs.Trees.{Attribute, Node, child_names}
 use Rattle.position_automata.specs.Automata.{IsDeterministic}
 use Rattle.attribute_types.specs.Classes.{in_class}
 use Rattle.attlist_merge.specs.declared.list.Definition.{Definition}
-use Rattle.attlist_merge.specs.Lists.{Entry, Definitions, definition_of}
+use Rattle.attlist_merge.specs.Lists.{Definitions, definition_of}
 use Rattle.attlist_merge.specs.Values.{is_allowed, is_given}
 use Rattle.decl_set.specs.Validity.{MeetsContent, is_text_allowed}
 use Rattle.article_validator.specs.Deriving.{is_derived}

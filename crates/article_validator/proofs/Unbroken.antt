@@ -1,20 +1,19 @@
 -- No node is broken exactly where every node meets its declaration.
-use Rattle.std.proofs.Common.{◌≡◌, ℕ, Bool, true, false, ◌&&◌, cond, List, [], ◌∷◌, Some, None, refl, IsTrue}
+use Rattle.std.proofs.Common.{◌≡◌, Bool, true, false, ◌&&◌, cond, List, [], ◌∷◌, Some, None, refl, IsTrue}
 use Rattle.std.specs.Prelude.{Option, option_map}
 use Rattle.std.specs.List.{AllByRecursion, list_all}
 use Rattle.std.specs.Option.{option_or}
 use Rattle.content_models.specs.declared.content.Content.{Content}
 use Rattle.content_models.specs.Kinds.{text_kind}
-use Rattle.document_trees.specs.Trees.{Attribute, Node, EachNode, child_names, nodes_in}
+use Rattle.document_trees.specs.Trees.{Attribute, Node, child_names, nodes_in}
 use Rattle.document_trees.specs.Laws.{OfNode}
 use Rattle.document_trees.proofs.Listed.{each_listed, listed_each}
-use Rattle.attlist_merge.specs.Lists.{Entry, Definitions}
+use Rattle.attlist_merge.specs.Lists.{Definitions}
 use Rattle.attlist_merge.specs.Oddness.{first_some}
 use Rattle.attlist_merge.specs.Values.{is_allowed, is_given}
 use Rattle.decl_set.specs.Asked.{IsKept}
 use Rattle.decl_set.specs.Declarations.{Declarations, content_in, attributes_in}
 use Rattle.decl_set.specs.Validity.{Meets, MeetsContent, is_text_allowed}
-use Rattle.decl_set.specs.declared.breaks.Cause.{Cause}
 use Rattle.decl_set.specs.declared.breaks.Cause.TheVariants as cause
 use Rattle.article_validator.specs.Deriving.{is_derived}
 use Rattle.article_validator.specs.First.{unallowed, ungiven, wrong_attribute, broken_by, broken_in, first_broken}

@@ -1,7 +1,6 @@
 -- Nothing is wrong in an article exactly where it is valid and its links are right.
-use Rattle.std.proofs.Common.{◌≡◌, ℕ, suc, Bool, true, false, cond, List, [], ◌∷◌, ◌++◌, map, Some, None, refl, sym, ap, subst, IsTrue, bytes_eq}
-use Rattle.std.specs.Prelude.{Option}
-use Rattle.std.specs.List.{flat_map, AllByRecursion}
+use Rattle.std.proofs.Common.{◌≡◌, ℕ, suc, true, false, cond, List, [], ◌∷◌, ◌++◌, map, Some, refl, sym, ap, IsTrue, bytes_eq}
+use Rattle.std.specs.List.{AllByRecursion}
 use Rattle.std.specs.Map.{lookup}
 use Rattle.std.proofs.lemmas.Slice.Eq.{bytes_eq-Decides}
 use Rattle.document_trees.specs.Trees.{Node, nodes_in}
@@ -14,9 +13,6 @@ use Rattle.article_validator.specs.Faults.{invalid, node_causes, faults_from, ro
 use Rattle.article_validator.specs.Laws.{ValidWithoutFaults}
 use Rattle.article_validator.specs.Links.{AreLinked, all_ids, ids_in, links_in, links_causes}
 use Rattle.article_validator.specs.Structure.{causes_in}
-use Rattle.article_validator.specs.declared.fault.Invalid.{Invalid}
-use Rattle.article_validator.specs.declared.fault.InvalidCause.{InvalidCause}
-use Rattle.article_validator.specs.declared.fault.InvalidCause.TheVariants as cause
 use Rattle.article_validator.proofs.Differing.{fresh_differ, differ_fresh, Absent}
 use Rattle.article_validator.proofs.Linking.{NoneFrom, linked_of, of_linked}
 use Rattle.article_validator.proofs.Structure.{both_empty, empty_both, empty_unless, unless_empty, IsDeterministicIfAny, meets_of_none, none_of_meets}

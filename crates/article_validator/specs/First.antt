@@ -1,5 +1,5 @@
 -- The first node of a document that does not meet its declaration, and why.
-use Rattle.std.specs.Prelude.{ℕ, Bool, List, [], ◌∷◌, Option, Some, None, option_map, if◌then◌else◌}
+use Rattle.std.specs.Prelude.{ℕ, List, Option, Some, None, option_map, if◌then◌else◌}
 use Rattle.std.specs.Option.{option_or}
 use Rattle.content_models.specs.declared.content.Content.{Content}
 use Rattle.content_models.specs.Kinds.{text_kind}

@@ -9,6 +9,7 @@ use Rattle.decl_set.specs.Declarations.{Declarations}
 use Rattle.decl_set.specs.Validity.{Meets, IsValid}
 use Rattle.article_validator.specs.Deriving.{is_derived}
 use Rattle.article_validator.specs.Faults.{fault_list}
+use Rattle.article_validator.specs.Filling.{filled}
 use Rattle.article_validator.specs.First.{first_broken}
 use Rattle.article_validator.specs.Links.{AreLinked}
 
@@ -23,3 +24,7 @@ ValidWithoutFaults = (set : Declarations) (root : List ℕ) (node : Node) → Is
 -- no node is broken exactly where every node meets its declaration
 abbrev pub NoneBroken : Type 0
 NoneBroken = (set : Declarations) (node : Node) → IsKept set → (first_broken set node ≡ None) ↔ EachNode (Meets set) node
+
+-- filling again changes nothing
+abbrev pub FilledOnce : Type 0
+FilledOnce = (set : Declarations) (node : Node) → filled set (filled set node) ≡ filled set node

@@ -1,5 +1,6 @@
 pub mod Deriving
 pub mod Faults
+pub mod Filling
 pub mod First
 pub mod Laws
 pub mod Links

@@ -1,5 +1,5 @@
 -- What is wrong in one node by its own declaration (XML 1.0, 3, Element Valid, 3.1, 3.3.1 and 3.3.2), in order.
-use Rattle.std.specs.Prelude.{ℕ, List, [], ◌∷◌, ◌++◌, Option, Some, None, if◌then◌else◌}
+use Rattle.std.specs.Prelude.{List, [], ◌∷◌, ◌++◌, Option, Some, None, if◌then◌else◌}
 use Rattle.std.specs.List.{flat_map}
 use Rattle.content_models.specs.declared.content.Content.{Content}
 use Rattle.content_models.specs.Kinds.{text_kind}

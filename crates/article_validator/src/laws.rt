@@ -1,6 +1,6 @@
 //! Laws of the definitions.
 
-ghost use Rattle.article_validator.specs.Laws.{DerivedByStates, ValidWithoutFaults, NoneBroken};
+ghost use Rattle.article_validator.specs.Laws.{DerivedByStates, ValidWithoutFaults, NoneBroken, FilledOnce};
 
 /// Going through the states of a deterministic content tells what it derives.
 pub fn deriving_law()
@@ -16,4 +16,9 @@ pub fn validity_law()
 /// No node is broken exactly where every node meets its declaration.
 pub fn first_law()
     ensures { NoneBroken }
+{}
+
+/// A document with its defaults has no further ones: filling again changes nothing.
+pub fn filling_law()
+    ensures { FilledOnce }
 {}

@@ -1,4 +1,4 @@
-use Rattle.std.proofs.Common.{◌≡◌, ◌∙◌, ◌++◌, ap}
+use Rattle.std.proofs.Common.{◌∙◌, ◌++◌, ap}
 use Rattle.article_validator.specs.Faults.{root_faults}
 use Rattle.article_validator.proofs.Keeping.{listed}
 use Rattle.article_validator.proofs.walk.list_of.Goals as goal
