@@ -25,3 +25,5 @@ pub mod Valued
 pub mod Appended
 pub mod Standing
 pub mod Tagged
+pub mod Stepping
+pub mod Skipping

@@ -21,8 +21,10 @@ mod frames;
 mod fronts;
 mod held;
 mod laws;
+mod outside;
 mod repeats;
 mod runs;
+mod steps;
 mod stops;
 mod taking;
 #[cfg(test)]
