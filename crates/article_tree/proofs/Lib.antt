@@ -27,3 +27,4 @@ pub mod Standing
 pub mod Tagged
 pub mod Stepping
 pub mod Skipping
+pub mod Beginning

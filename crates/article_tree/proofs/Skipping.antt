@@ -1,6 +1,6 @@
 -- Steps outside of all elements.
-use Rattle.std.proofs.Common.{◌≡◌, ◌∙◌, ℕ, ◌+◌, ◌-◌, ◌<◌, ◌≤◌, List, [], ◌∷◌, length, drop, map, Bool, true, false, Option, Some, None, Result, Ok, Err, refl, ap, sym, arith, codes}
-use Rattle.std.specs.Prelude.{Vec, nat_eq}
+use Rattle.std.proofs.Common.{◌≡◌, ◌∙◌, ℕ, ◌+◌, ◌-◌, ◌<◌, ◌≤◌, List, [], ◌∷◌, ◌++◌, suc, length, length-append, length-drop, drop, map, Bool, true, false, Option, Some, None, Result, Ok, Err, refl, ap, sym, arith, codes}
+use Rattle.std.specs.Prelude.{Vec, nat_eq, if◌then◌else◌}
 use Rattle.std.specs.List.{starts_with}
 use Rattle.std.specs.declared.alloc.Global.{Global}
 use Rattle.std.proofs.lemmas.Bool.{cond-true, cond-false}
@@ -15,10 +15,10 @@ use Rattle.article_tree.specs.Frames.{Passage, left, moved, rest_of, step}
 use Rattle.article_tree.specs.Held.{EndsApart, held_items, run_items, stacked, state_of}
 use Rattle.article_tree.specs.InPlace.{by_token_in, reading_in}
 use Rattle.article_tree.specs.Outcomes.{Fails, Refuses, standing_of}
-use Rattle.article_tree.specs.Reading.{Article, Open, State, article_by, article_step, has_root, holding, misplaced, outside, started, whole}
+use Rattle.article_tree.specs.Reading.{Article, Open, State, article_by, article_step, has_root, holding, misplaced, outside, started, type_by, type_end, whole}
 use Rattle.article_tree.specs.Stops.{Standing, refused}
 use Rattle.article_tree.specs.Taken.{StandsAt}
-use Rattle.article_tree.specs.Taking.{first_token}
+use Rattle.article_tree.specs.Taking.{behind, first_token}
 use Rattle.article_tree.specs.Tokens.{Tag, Token, start}
 use Rattle.article_tree.specs.Words.{is_misc}
 use Rattle.article_tree.specs.Works.{Advances, IsOutside, left_of, passage_of, size_of, work_of}
@@ -29,6 +29,8 @@ use Rattle.article_tree.specs.declared.held.OpenElement.{OpenElement}
 use Rattle.article_tree.specs.declared.held.Run.{Run}
 use Rattle.article_tree.specs.declared.stops.ArticleFault.{ArticleFault}
 use Rattle.article_tree.specs.declared.stops.ArticleFault.TheVariants.{Refused, NoMemory}
+use Rattle.dtd_scanner.proofs.Runs.{starts_found}
+use Rattle.article_tree.proofs.Doctypes.{doctype_found}
 use Rattle.article_tree.proofs.Holding.{behind_run}
 use Rattle.article_tree.proofs.Stepping.{started_rises}
 use Rattle.article_tree.proofs.Tagged.{refuses_fails}
@@ -125,3 +127,66 @@ module _ (entities : List Entity) (held : Held) (frame : Frame) (typed : Bool) (
       → Fails f (started entities frame.names 0 (standing_of frame.stand) frame.at (state_of held) tag) → Fails f (left_of entities (work_of held typed frame waiting))
   start_fails tag next h (Refused r) first is = starts_so tag next h first ∙ ap (λ (x : Result State Fault). x >>= λ v. left entities true [] (moved (passage_of frame) next) v) is
   start_fails tag next h NoMemory first is = tt
+
+-- ---- document type declarations
+
+pub begins_not : (text mark : List ℕ) → None ≡ behind mark text → starts_with nat_eq text mark ≡ false
+begins_not text mark is = by (starts_with nat_eq text mark) is
+  where
+    by : (b : Bool) → None ≡ (if b then Some (drop (length mark) text) else None) → b ≡ false
+    by true e = absurd (let f : None ≡ Some (drop (length mark) text) = e in cc)
+    by false e = refl
+
+pub begins_so : (text mark after : List ℕ) → Some after ≡ behind mark text → (starts_with nat_eq text mark ≡ true) × (after ≡ drop (length mark) text)
+begins_so text mark after is = by (starts_with nat_eq text mark) is
+  where
+    by : (b : Bool) → Some after ≡ (if b then Some (drop (length mark) text) else None) → (b ≡ true) × (after ≡ drop (length mark) text)
+    by true e = (refl, cc)
+    by false e = absurd (let f : Some after ≡ None = e in cc)
+
+-- what stands behind a document type declaration is shorter
+pub type_sizes : (text after : List ℕ) → starts_with nat_eq text (codes "<!DOCTYPE") ≡ true → type_end (drop 9 text) ≡ Some after → starts_with nat_eq after (codes ">") ≡ true
+    → (length after ≡ length (drop 1 after) + 1) × (length (drop 1 after) < length text)
+type_sizes text after begins ends mark =
+    let form = starts_found (codes ">") after mark in
+    let f = doctype_found text (drop 1 after) begins (ends ∙ ap Some form) in
+    let size : length text ≡ length f.0 + length (drop 1 after) = ap length f.2 ∙ length-append f.0 (drop 1 after) in
+    let filled : 0 < length f.0 = (let e : length f.0 ≡ suc (length (codes "!DOCTYPE" ++ (f.1.space ++ (f.1.name ++ (f.1.external ++ (f.1.blank ++ codes ">")))))) = ap length f.1.form in omega (arith, e)) in
+    let one : length after ≡ suc (length (drop 1 after)) = ap length form in
+    (omega (arith, one), omega (arith, size, filled))
+
+module _ (entities : List Entity) (held : Held) (frame : Frame) (waiting : Vec Frame Global) (none : waiting.items ≡ []) (out : IsOutside held frame) (begins : starts_with nat_eq (drop frame.at frame.text.now) (codes "<!DOCTYPE") ≡ true) where
+  typing : (o : Option (List ℕ)) → type_end (drop 9 (drop frame.at frame.text.now)) ≡ o
+      → article_step (step entities (passage_of frame)) (standing_of frame.stand) frame.at (record { state = state_of held; typed = false }) (rest_of (passage_of frame))
+      ≡ type_by (standing_of frame.stand) frame.at (record { state = state_of held; typed = false }) (rest_of (passage_of frame)) o
+  typing o is =
+      ap (article_by (step entities (passage_of frame)) (standing_of frame.stand) frame.at (record { state = state_of held; typed = false }) (rest_of (passage_of frame))) (ap (λ (t : List OpenElement). stacked t []) out.none_open)
+      ∙ cond-true (starts_with nat_eq (drop frame.at frame.text.now) (codes "<!DOCTYPE")) _ _ begins
+      ∙ ap (type_by (standing_of frame.stand) frame.at (record { state = state_of held; typed = false }) (rest_of (passage_of frame))) is
+
+  alone_so : left_of entities (work_of held false frame waiting) ≡ left entities false [] (passage_of frame) (state_of held)
+  unfolding left_of
+  alone_so = ap (λ (t : List Frame). left entities false (map passage_of t) (passage_of frame) (state_of held)) none
+
+  pub type_stops : (o : Option (List ℕ)) (f : ArticleFault) (said : Fault) → type_end (drop 9 (drop frame.at frame.text.now)) ≡ o
+      → type_by (standing_of frame.stand) frame.at (record { state = state_of held; typed = false }) (rest_of (passage_of frame)) o ≡ Err said → Refuses said f
+      → Fails f (left_of entities (work_of held false frame waiting))
+  type_stops o f said is e refuses =
+      refuses_fails f said _ refuses (alone_so ∙ article_stops entities false (passage_of frame) (state_of held) said out.here (typing o is ∙ e))
+
+  pub type_passes : (after : List ℕ) (next : ℕ) → type_end (drop 9 (drop frame.at frame.text.now)) ≡ Some after → starts_with nat_eq after (codes ">") ≡ true → next ≡ length frame.text.now - (length after - 1)
+      → Advances entities (work_of held false frame waiting) (work_of held true (record frame { at = next }) waiting)
+  unfolding left_of size_of
+  type_passes after next is mark far =
+    let sizes = type_sizes (drop frame.at frame.text.now) after begins is mark in
+    let total = length-drop frame.at frame.text.now in
+    let n = length (drop frame.at frame.text.now) - length (drop 1 after) in
+    let here = out.here in
+    record {
+      same =
+      ap (λ (t : List Frame). left entities true (map passage_of t) (moved (passage_of frame) next) (state_of held)) none
+      ∙ ap (λ (m : ℕ). left entities true [] (moved (passage_of frame) m) (state_of held)) (let e : next ≡ frame.at + n = omega (arith, sizes.0, sizes.1, total, far, here) in e)
+      ∙ sym (alone_so ∙ article_skips entities false true (passage_of frame) (state_of held) n here (omega (arith, sizes.1)) (typing (Some after) is ∙ cond-true (starts_with nat_eq after (codes ">")) _ _ mark));
+      nearer = omega (arith, sizes.0, sizes.1, total, far, here);
+      apart = out.apart;
+    }

@@ -22,6 +22,7 @@ mod fronts;
 mod held;
 mod laws;
 mod outside;
+mod reading;
 mod repeats;
 mod runs;
 mod steps;

@@ -1,10 +1,12 @@
 //! Steps of a reading outside of all elements.
 
-ghost use Rattle.std.specs.Prelude.{◌≡◌, ◌<◌, ◌≤◌, [], ◌∷◌, Bool, IfOk, IfSome, Vec, length, drop, OnOk, option_and_then, codes, false, nat_eq};
+ghost use Rattle.std.specs.Prelude.{◌≡◌, ◌<◌, ◌≤◌, [], ◌∷◌, Bool, IfOk, IfSome, Vec, length, drop, OnOk, option_and_then, codes, false, true, nat_eq, List};
 ghost use Rattle.std.specs.List.{starts_with};
 ghost use Rattle.std.specs.Option.{option_copied};
 ghost use Rattle.std.specs.declared.alloc.Global.{Global as TheGlobal};
 ghost use Rattle.article_tree.specs.declared.frames.Frame.{Frame as TheFrame};
+ghost use Rattle.article_tree.specs.declared.held.Held.{Held as TheHeld};
+ghost use Rattle.decl_set.specs.Declarations.{Entity};
 ghost use Rattle.declaration_bodies.specs.Identifiers.{read_ids as ids};
 ghost use Rattle.text_fronts.specs.Fronts as front;
 ghost use Rattle.article_tree.specs.Held.{EndsApart, state_of};
@@ -14,7 +16,7 @@ ghost use Rattle.article_tree.specs.Works.{IsOutside, Passes, work_of};
 
 use crate::elements::start_element;
 use crate::frames::Frame;
-use crate::fronts::spaced_name;
+use crate::fronts::{behind, spaced_name};
 use crate::held::Held;
 use crate::stops::{ArticleFault, Stand, refused};
 use crate::token::Lent;
@@ -140,5 +142,48 @@ fn pass_misc(
         Lent::Coded(_) => Err(misplaced(alloc, &frame.stand, at, held)),
         Lent::Named(_) => Err(misplaced(alloc, &frame.stand, at, held)),
         Lent::Stop(_) => Err(misplaced(alloc, &frame.stand, at, held)),
+    }
+}
+
+/// Behind the mark of a document type declaration, which stands at the place.
+fn pass_type(alloc: Global, frame: &mut Frame, behind: &[char]) -> Result<bool, ArticleFault>
+    requires here { frame.old.at < length frame.old.text.now }
+    requires begins { starts_with nat_eq (drop frame.old.at frame.old.text.now) (codes "<!DOCTYPE") ≡ true }
+    requires behind { behind.now ≡ drop 9 (drop frame.old.at frame.old.text.now) }
+    ensures { (entities : List Entity) (held : TheHeld) (waiting : Vec TheFrame TheGlobal) → waiting.items ≡ [] → IsOutside held frame.old → Passes entities (work_of held false frame.old waiting) held frame.new waiting result }
+{
+    let at = frame.at;
+    let Some(after) = type_end(alloc, behind)? else {
+        return Err(refused(alloc, &frame.stand, at, 60, Details::new(alloc)));
+    };
+    if after.starts_with(['>'].as_slice()) {
+        frame.at = frame.text.len() - (after.len() - 1);
+        return Ok(true);
+    }
+    if after.starts_with(['['].as_slice()) {
+        return Err(refused(alloc, &frame.stand, at, 67, Details::new(alloc)));
+    }
+    Err(refused(alloc, &frame.stand, at, 60, Details::new(alloc)))
+}
+
+/// A step outside of all elements. The answer is whether a document type declaration may no longer come.
+pub fn step_outside(
+    alloc: Global,
+    set: &DeclSet,
+    frame: &mut Frame,
+    held: &mut Held,
+    typed: bool,
+) -> Result<bool, ArticleFault>
+    requires { IsOutside held.old frame.old }
+    ensures { (waiting : Vec TheFrame TheGlobal) → waiting.items ≡ [] → Passes set.now.entities (work_of held.old typed frame.old waiting) held.new frame.new waiting result }
+{
+    if typed {
+        return pass_misc(alloc, set, frame, held, true);
+    }
+    let rest = frame.text.split_at(frame.at).1;
+    let mark = ['<', '!', 'D', 'O', 'C', 'T', 'Y', 'P', 'E'];
+    match behind(mark.as_slice(), rest) {
+        None => pass_misc(alloc, set, frame, held, false),
+        Some(behind) => pass_type(alloc, frame, behind),
     }
 }
