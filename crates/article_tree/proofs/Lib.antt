@@ -28,3 +28,4 @@ pub mod Tagged
 pub mod Stepping
 pub mod Skipping
 pub mod Beginning
+pub mod Decoded

@@ -87,10 +87,10 @@ module _ (entities : List Entity) (held : Held) (frame : Frame) (typed : Bool) (
   unfolding left_of size_of
   skips_there token next h e = record {
     same =
-    let n = length (rest_of (passage_of frame)) - length h.rest in
-    ap (λ (t : List Frame). left entities typed (map passage_of t) (moved (passage_of frame) next) (state_of held)) none
-    ∙ ap (λ (m : ℕ). left entities typed [] (moved (passage_of frame) m) (state_of held)) h.far
-    ∙ sym (alone ∙ article_skips entities typed typed (passage_of frame) (state_of held) n out.here (omega (arith, h.some, h.far)) (stepped (Some (token, h.rest)) h.is ∙ e));
+        let n = length (rest_of (passage_of frame)) - length h.rest in
+        ap (λ (t : List Frame). left entities typed (map passage_of t) (moved (passage_of frame) next) (state_of held)) none
+        ∙ ap (λ (m : ℕ). left entities typed [] (moved (passage_of frame) m) (state_of held)) h.far
+        ∙ sym (alone ∙ article_skips entities typed typed (passage_of frame) (state_of held) n out.here (omega (arith, h.some, h.far)) (stepped (Some (token, h.rest)) h.is ∙ e));
     nearer = omega (arith, h.some, h.within);
     apart = out.apart;
   }
@@ -115,11 +115,11 @@ module _ (entities : List Entity) (held : Held) (frame : Frame) (typed : Bool) (
   unfolding left_of size_of
   starts_there tag next h new first is apart = record {
     same =
-    ap (λ (t : List Frame). left entities true (map passage_of t) (moved (passage_of frame) next) (state_of new)) none
-    ∙ sym (starts_so tag next h first ∙ ap (λ (x : Result State Fault). x >>= λ v. left entities true [] (moved (passage_of frame) next) v) is);
+        ap (λ (t : List Frame). left entities true (map passage_of t) (moved (passage_of frame) next) (state_of new)) none
+        ∙ sym (starts_so tag next h first ∙ ap (λ (x : Result State Fault). x >>= λ v. left entities true [] (moved (passage_of frame) next) v) is);
     nearer =
-    let rises = started_rises entities frame.names (standing_of frame.stand) frame.at (state_of held) tag (state_of new) is in
-    omega (arith, h.some, h.within, rises);
+        let rises = started_rises entities frame.names (standing_of frame.stand) frame.at (state_of held) tag (state_of new) is in
+        omega (arith, h.some, h.within, rises);
     apart = apart;
   }
 
@@ -178,15 +178,15 @@ module _ (entities : List Entity) (held : Held) (frame : Frame) (waiting : Vec F
       → Advances entities (work_of held false frame waiting) (work_of held true (record frame { at = next }) waiting)
   unfolding left_of size_of
   type_passes after next is mark far =
-    let sizes = type_sizes (drop frame.at frame.text.now) after begins is mark in
-    let total = length-drop frame.at frame.text.now in
-    let n = length (drop frame.at frame.text.now) - length (drop 1 after) in
-    let here = out.here in
-    record {
-      same =
-      ap (λ (t : List Frame). left entities true (map passage_of t) (moved (passage_of frame) next) (state_of held)) none
-      ∙ ap (λ (m : ℕ). left entities true [] (moved (passage_of frame) m) (state_of held)) (let e : next ≡ frame.at + n = omega (arith, sizes.0, sizes.1, total, far, here) in e)
-      ∙ sym (alone_so ∙ article_skips entities false true (passage_of frame) (state_of held) n here (omega (arith, sizes.1)) (typing (Some after) is ∙ cond-true (starts_with nat_eq after (codes ">")) _ _ mark));
-      nearer = omega (arith, sizes.0, sizes.1, total, far, here);
-      apart = out.apart;
-    }
+      let sizes = type_sizes (drop frame.at frame.text.now) after begins is mark in
+      let total = length-drop frame.at frame.text.now in
+      let n = length (drop frame.at frame.text.now) - length (drop 1 after) in
+      let here = out.here in
+      record {
+        same =
+            ap (λ (t : List Frame). left entities true (map passage_of t) (moved (passage_of frame) next) (state_of held)) none
+            ∙ ap (λ (m : ℕ). left entities true [] (moved (passage_of frame) m) (state_of held)) (let e : next ≡ frame.at + n = omega (arith, sizes.0, sizes.1, total, far, here) in e)
+            ∙ sym (alone_so ∙ article_skips entities false true (passage_of frame) (state_of held) n here (omega (arith, sizes.1)) (typing (Some after) is ∙ cond-true (starts_with nat_eq after (codes ">")) _ _ mark));
+        nearer = omega (arith, sizes.0, sizes.1, total, far, here);
+        apart = out.apart;
+      }

@@ -185,15 +185,15 @@ opens entities w name next s q ps h text spent base other is counted room few ba
     let waits : map passage_of ps.items ≡ map passage_of w.waiting.items ++ moved (passage_of w.frame) next ∷ [] = ap (map passage_of) push ∙ map_push passage_of w.waiting.items f in
     record {
       same =
-      ap (λ (t : List Passage). left entities true t (passage_of q) (state_of h)) waits
-      ∙ ap (λ (v : State). left entities true (map passage_of w.waiting.items ++ moved (passage_of w.frame) next ∷ []) (passage_of q) v) (state ∙ ap (noted (record (state_of w.held) { spent = spent })) (sym (ap (λ (p : Passage). p.text) at)))
-      ∙ reference_opens entities w.typed (map passage_of w.waiting.items) (passage_of w.frame) (passage_of q) (state_of w.held) name next spent s.here s.stands s.inside other
-      (is ∙ ap (λ (t : List ℕ). Ok (t, spent)) (sym (ap (λ (p : Passage). p.text) at))) few (ap (λ (p : Passage). p.names) at) (ap (λ (p : Passage). p.standing) at) (ap (λ (p : Passage). p.base) at ∙ based) (ap (λ (p : Passage). p.at) at);
+          ap (λ (t : List Passage). left entities true t (passage_of q) (state_of h)) waits
+          ∙ ap (λ (v : State). left entities true (map passage_of w.waiting.items ++ moved (passage_of w.frame) next ∷ []) (passage_of q) v) (state ∙ ap (noted (record (state_of w.held) { spent = spent })) (sym (ap (λ (p : Passage). p.text) at)))
+          ∙ reference_opens entities w.typed (map passage_of w.waiting.items) (passage_of w.frame) (passage_of q) (state_of w.held) name next spent s.here s.stands s.inside other
+          (is ∙ ap (λ (t : List ℕ). Ok (t, spent)) (sym (ap (λ (p : Passage). p.text) at))) few (ap (λ (p : Passage). p.names) at) (ap (λ (p : Passage). p.standing) at) (ap (λ (p : Passage). p.base) at ∙ based) (ap (λ (p : Passage). p.at) at);
       nearer =
-      let size = opens_size w.waiting.items ps.items f w.frame.at w.held.spent spent text s.stands.some s.stands.within counted room push in
-      let t : length q.text.now ≡ length text = ap (λ (p : Passage). length p.text) at in
-      let z : q.at ≡ 0 = ap (λ (p : Passage). p.at) at in
-      omega (arith, size, t, z, same);
+          let size = opens_size w.waiting.items ps.items f w.frame.at w.held.spent spent text s.stands.some s.stands.within counted room push in
+          let t : length q.text.now ≡ length text = ap (λ (p : Passage). length p.text) at in
+          let z : q.at ≡ 0 = ap (λ (p : Passage). p.at) at in
+          omega (arith, size, t, z, same);
       apart = apart;
     }
 
@@ -228,7 +228,7 @@ pub goes_on : (entities : List Entity) (w : Work) (ps : Vec Frame Global) (f : F
 unfolding left_of size_of
 goes_on entities w ps f is end few apart = record {
   same = sym (last_waits entities w ps.items f is end
-  ∙ ap (λ (x : Result State Fault). x >>= λ v. left entities true (map passage_of ps.items) (passage_of f) v) (cond-false (nat_lt w.frame.base (length (state_of w.held).opens)) _ _ (not_below w.frame.base (length (state_of w.held).opens) few)));
+      ∙ ap (λ (x : Result State Fault). x >>= λ v. left entities true (map passage_of ps.items) (passage_of f) v) (cond-false (nat_lt w.frame.base (length (state_of w.held).opens)) _ _ (not_below w.frame.base (length (state_of w.held).opens) few)));
   nearer = ends_size w.waiting.items ps.items f (length w.frame.text.now - w.frame.at) w.held.spent is;
   apart = apart;
 }

@@ -90,9 +90,7 @@ fn open_text<'a>(
     let at = frame.at;
     let name = name_of(alloc, name)?;
     match enter(alloc, set, &frame.names, &name, held.spent) {
-        Err(fault) => {
-            Err(value_stop(alloc, &frame.stand, at, name.text().as_slice(), fault))
-        }
+        Err(fault) => { Err(value_stop(alloc, &frame.stand, at, name.text().as_slice(), fault)) }
         Ok(entered) => {
             let inner = inner_frame(alloc, frame, held.opens.len(), name, entered.text)?;
             let mut outer = std::mem::replace(frame, inner);

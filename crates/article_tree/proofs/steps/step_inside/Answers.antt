@@ -28,7 +28,6 @@ start_element-requires-clause-named c = (start_raw c.args.frame.now.text.now c.a
 pub start_element-requires-clause-raw : goal.start_element-requires-clause-raw
 start_element-requires-clause-raw c = (start_raw c.args.frame.now.text.now c.args.frame.now.at c.in-Some.next (tag_of c.in-Start.tag) (rw c.in-Start.is at (rw c.in-Some.is at c.in_ok-token.ensures))).1
 
-
 pub returns-in-Err : goal.returns-in-Err
 returns-in-Err c = λ typed.
     let w = work_of c.args.held.now typed c.args.frame.now c.args.waiting.now in
