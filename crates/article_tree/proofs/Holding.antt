@@ -20,7 +20,7 @@ run_other text plain (Comment more) other = refl
 run_other text plain (Pi target body) other = refl
 
 -- what is behind a run that is not the last item
-behind_run : (text : List ℕ) (plain : Bool) (item : Item) (items : List Item) (x : Items) → joined (tree.chars text plain (items_of (item ∷ items))) x ≡ tree.chars text plain (joined (items_of (item ∷ items)) x)
+pub behind_run : (text : List ℕ) (plain : Bool) (item : Item) (items : List Item) (x : Items) → joined (tree.chars text plain (items_of (item ∷ items))) x ≡ tree.chars text plain (joined (items_of (item ∷ items)) x)
 behind_run text plain (Element node) items x = refl
 behind_run text plain (Chars more is) items x = refl
 behind_run text plain (Comment more) items x = refl

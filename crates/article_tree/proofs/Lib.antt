@@ -25,3 +25,7 @@ pub mod Valued
 pub mod Appended
 pub mod Standing
 pub mod Tagged
+pub mod Stepping
+pub mod Skipping
+pub mod Beginning
+pub mod Decoded

@@ -3,7 +3,7 @@ use Rattle.std.proofs.Common.{◌≡◌, ◌∙◌, ℕ, ◌-◌, ◌<◌, ◌�
 use Rattle.std.specs.List.{AllByRecursion}
 use Rattle.std.specs.Prelude.{IsTrue}
 use Rattle.jats_chars.specs.Names.{is_name}
-use Rattle.article_tree.specs.Tokens.{Raw, Tag, Token, named, start, AreAttributes, IsTag}
+use Rattle.article_tree.specs.Tokens.{Raw, Tag, Token, instruction, named, start, AreAttributes, IsInstruction, IsTag}
 use Rattle.article_tree.specs.Taking.{first_token}
 use Rattle.article_tree.specs.Taken.{StandsAt}
 use Rattle.article_tree.specs.Outcomes.{IsRaw}
@@ -29,6 +29,12 @@ start_raw text at next tag h =
 
 pub named_name : (text : List ℕ) (at next : ℕ) (name : List ℕ) → StandsAt text at (named name) next → IsTrue (is_name name)
 named_name text at next name h = (taken (named name) (drop at text) h.rest h.is).1.0
+
+pub target_name : (text : List ℕ) (at next : ℕ) (target body : List ℕ) → StandsAt text at (instruction target body) next → IsTrue (is_name target)
+target_name text at next target body h =
+    let b = taken (instruction target body) (drop at text) h.rest h.is in
+    let i : IsInstruction b.0 target body = b.1 in
+    i.is_named
 
 pub shorter : (text : List ℕ) (at : ℕ) (behind : List ℕ) (token : Token) (rest : List ℕ) → at < length text → behind ≡ drop at text → Some (token, rest) ≡ first_token behind → length rest ≤ length text
 shorter text at behind token rest within same is =

@@ -16,3 +16,4 @@ pub mod Held
 pub mod Outcomes
 pub mod WritingSteps
 pub mod Works
+pub mod Decoding

@@ -9,8 +9,8 @@
 //! the first fault of it, with its place. The laws at the end say that what is computed agrees with the grammar, that a
 //! text is an article of one node at most, and that what is written of a writable node is read back.
 //!
-//! `write_article` gives the text of a node, without recursion. The parts of reading are calls with the contracts of their
-//! definitions: `tokens` gives the token at a place, lent from the text, `elements` does what tags do, with the values of
+//! `read_article` gives the node of an article from its bytes, and `write_article` the text of a node, both without
+//! recursion. The parts of reading are calls with the contracts of their definitions: `tokens` gives the token at a place, lent from the text, `elements` does what tags do, with the values of
 //! attributes by `values`, `entities` opens a reference, `held` keeps what was read, and `stops` makes the refusals. `Works`
 //! says what a stack of texts still gives.
 #![tactic(auto)]
@@ -21,8 +21,11 @@ mod frames;
 mod fronts;
 mod held;
 mod laws;
+mod outside;
+mod reading;
 mod repeats;
 mod runs;
+mod steps;
 mod stops;
 mod taking;
 #[cfg(test)]
@@ -37,4 +40,6 @@ pub use document_trees::{AttValues, Item, ItemList, Node};
 pub use laws::{
     article_law, content_law, document_law, fault_law, one_law, placing_law, token_law, writing_law,
 };
+pub use reading::read_article;
+pub use stops::ArticleFault;
 pub use writing::write_article;
