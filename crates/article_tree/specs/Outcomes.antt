@@ -16,6 +16,7 @@ use Rattle.article_tree.specs.declared.stops.EntityText.{EntityText}
 use Rattle.article_tree.specs.declared.stops.Stand.{Stand}
 use Rattle.article_tree.specs.declared.stops.ArticleFault.{ArticleFault}
 use Rattle.article_tree.specs.declared.stops.ArticleFault.TheVariants.{Refused, NoMemory}
+use Rattle.jats_fault.specs.declared.numbers.TheConstants as number
 
 abbrev pub inner_of : EntityText → Inner
 inner_of e = record { place = e.place; name = e.name }
@@ -62,5 +63,5 @@ Moves said new (Err fault) = Fails fault said
 -- no attribute stands twice, or the refusal names the first that does
 abbrev pub TestsRepeated : {X : Type 0} → Standing → ℕ → List ℕ → Option (List ℕ) → Result X ArticleFault → Type 0
 TestsRepeated c at name again (Ok x) = again ≡ None
-TestsRepeated c at name again (Err (Refused refusal)) = (twice : List ℕ) × (again ≡ Some twice) × (refusal ≡ refused c at 62 (name ∷ twice ∷ []))
+TestsRepeated c at name again (Err (Refused refusal)) = (twice : List ℕ) × (again ≡ Some twice) × (refusal ≡ refused c at number.REPEATED_ATTRIBUTE (name ∷ twice ∷ []))
 TestsRepeated c at name again (Err NoMemory) = Unit {0}

@@ -17,6 +17,7 @@ use Rattle.article_tree.specs.Tokens.{Raw, Tag, Token, letter, section, coded, n
 use Rattle.article_tree.specs.Words.{Names, most_elements, repeated, is_misc}
 use Rattle.article_tree.specs.Taking.{first_token}
 use Rattle.article_tree.specs.Stops.{Standing, standing_in, refused, malformed, stopped}
+use Rattle.jats_fault.specs.declared.numbers.TheConstants as number
 
 -- an open element, and what stands before it in the one around it
 pub record Open : Type 0 where
@@ -55,9 +56,9 @@ entered s name atts spent true = put (record s { spent = spent }) (tree.element 
 entered s name atts spent false = record { opens = record { name = name; atts = atts; before = s.items } ∷ s.opens; items = tree.nothing; spent = spent }
 
 abbrev pub unrepeated : ℕ → Standing → ℕ → State → Tag → List Attribute → ℕ → Option (List ℕ) → Result State Fault
-unrepeated depth c at s tag atts spent (Some again) = Err (refused c at 62 (tag.name ∷ again ∷ []))
+unrepeated depth c at s tag atts spent (Some again) = Err (refused c at number.REPEATED_ATTRIBUTE (tag.name ∷ again ∷ []))
 unrepeated depth c at s tag atts spent None =
-    if nat_lt (depth + length s.opens) most_elements then Ok (entered s tag.name atts spent tag.closed) else Err (refused c at 65 (tag.name ∷ []))
+    if nat_lt (depth + length s.opens) most_elements then Ok (entered s tag.name atts spent tag.closed) else Err (refused c at number.ELEMENT_TOO_DEEP (tag.name ∷ []))
 
 abbrev pub started : List Entity → Names → ℕ → Standing → ℕ → State → Tag → Result State Fault
 started entities names depth c at s tag =
@@ -72,7 +73,7 @@ abbrev pub ended : Standing → ℕ → State → List ℕ → List Open → Res
 ended c at s name [] = Err (malformed c at)
 ended c at s name (o ∷ opens) =
     if bytes_eq o.name name then Ok (popped s o opens)
-    else Err (refused c at 61 (o.name ∷ name ∷ []))
+    else Err (refused c at number.TAG_MISMATCH (o.name ∷ name ∷ []))
 
 -- ---- references to general entities
 
@@ -139,7 +140,7 @@ holding a (Err fault) = Err fault
 
 -- what is no Misc behind the element, or begins nothing before it
 abbrev pub misplaced : Standing → ℕ → Article → Fault
-misplaced c at a = if has_root a.state.items then refused c at 66 [] else refused c at 60 []
+misplaced c at a = if has_root a.state.items then refused c at number.REST_AFTER_ROOT [] else refused c at number.ARTICLE_MALFORMED []
 
 -- S Name, and S and an external identifier: the rest, behind S?
 abbrev pub identified : List ℕ → Option (Ids × List ℕ) → List ℕ
@@ -150,11 +151,11 @@ abbrev pub type_end : List ℕ → Option (List ℕ)
 type_end text = option_map (λ x. identified x.1 (option_and_then read_ids (read_space x.1))) (spaced_name text)
 
 abbrev pub type_by : Standing → ℕ → Article → List ℕ → Option (List ℕ) → Result (Article × ℕ) Fault
-type_by c at a text None = Err (refused c at 60 [])
+type_by c at a text None = Err (refused c at number.ARTICLE_MALFORMED [])
 type_by c at a text (Some rest) =
     if starts_with nat_eq rest (codes ">") then Ok (record a { typed = true }, length text - length (drop 1 rest))
-    else if starts_with nat_eq rest (codes "[") then Err (refused c at 67 [])
-    else Err (refused c at 60 [])
+    else if starts_with nat_eq rest (codes "[") then Err (refused c at number.INTERNAL_SUBSET [])
+    else Err (refused c at number.ARTICLE_MALFORMED [])
 
 -- a step over content
 abbrev pub Stepping : Type 0

@@ -16,7 +16,7 @@ use crate::stops::{ArticleFault, Stand, refusal};
 use decl_set::DeclSet;
 use document_trees::Node;
 use jats_chars::{DecodeFault, NameList, Text, decode};
-use jats_fault::Details;
+use jats_fault::{Details, numbers};
 use std::alloc::Global;
 
 /// One token inside of an element, or of an included text.
@@ -108,10 +108,34 @@ fn decode_stop(alloc: Global, place: &Text, fault: DecodeFault) -> ArticleFault
     ensures { StopsDecoding place.now fault result }
 {
     match fault {
-        DecodeFault::NotUtf8(byte) => refusal(alloc, 13, place, byte, Details::new(alloc)),
-        DecodeFault::NotChar(byte) => refusal(alloc, 14, place, byte, Details::new(alloc)),
-        DecodeFault::BadTextDecl => refusal(alloc, 15, place, 0, Details::new(alloc)),
-        DecodeFault::EncodingOther => refusal(alloc, 16, place, 0, Details::new(alloc)),
+        DecodeFault::NotUtf8(byte) => refusal(
+            alloc,
+            numbers::NOT_UTF8,
+            place,
+            byte,
+            Details::new(alloc),
+        ),
+        DecodeFault::NotChar(byte) => refusal(
+            alloc,
+            numbers::NOT_CHAR,
+            place,
+            byte,
+            Details::new(alloc),
+        ),
+        DecodeFault::BadTextDecl => refusal(
+            alloc,
+            numbers::BAD_TEXT_DECL,
+            place,
+            0,
+            Details::new(alloc),
+        ),
+        DecodeFault::EncodingOther => refusal(
+            alloc,
+            numbers::ENCODING_OTHER,
+            place,
+            0,
+            Details::new(alloc),
+        ),
         DecodeFault::NoMemory => ArticleFault::NoMemory,
     }
 }
