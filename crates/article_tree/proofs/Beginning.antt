@@ -1,5 +1,5 @@
 -- A reading from its beginning to its end.
-use Rattle.std.proofs.Common.{◌≡◌, ◌∙◌, ℕ, ◌+◌, ◌<◌, List, [], ◌∷◌, length, map, Bool, true, false, cond, Result, Ok, Err, refl, ap, sym, arith}
+use Rattle.std.proofs.Common.{◌≡◌, ◌∙◌, ℕ, ◌+◌, ◌<◌, List, [], ◌∷◌, length, map, Bool, true, false, cond, Result, Ok, refl, ap, sym, arith}
 use Rattle.std.specs.Bool.{OnTrue, OnFalse}
 use Rattle.jats_fault.specs.declared.fault.Fault.{Fault}
 use Rattle.document_trees.specs.Trees.{Node}
@@ -14,7 +14,6 @@ use Rattle.article_tree.specs.declared.frames.Frame.{Frame}
 use Rattle.article_tree.specs.declared.frames.Work.{Work}
 use Rattle.article_tree.specs.declared.held.Held.{Held}
 use Rattle.article_tree.specs.declared.stops.ArticleFault.{ArticleFault}
-use Rattle.article_tree.specs.declared.stops.ArticleFault.TheVariants.{Refused, NoMemory}
 use Rattle.article_tree.proofs.Holding.{stacked_length}
 
 pub inside_waiting : (fs : List Frame) (s : State) → 0 < length fs → IsInside (map passage_of fs) s

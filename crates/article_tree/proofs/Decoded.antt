@@ -12,6 +12,7 @@ use Rattle.article_tree.specs.Decoding.{HasRow, StopsDecoding, decode_stop, deco
 use Rattle.article_tree.specs.Outcomes.{Fails}
 use Rattle.article_tree.specs.Outcomes as outcome
 use Rattle.article_tree.specs.InPlace.{article_in_place}
+use Rattle.article_tree.specs.Reading.{article_of}
 use Rattle.article_tree.specs.declared.stops.ArticleFault.{ArticleFault}
 use Rattle.article_tree.specs.declared.stops.ArticleFault.TheVariants.{Refused, NoMemory}
 use Rattle.article_tree.proofs.Places.{fault_within}
@@ -47,3 +48,8 @@ pub answers_row : (entities : List Entity) (article : List ℕ) (said : Result (
 answers_row entities article said (Ok n) is = tt
 answers_row entities article said (Err (Refused r)) is = number_stands entities article said r is
 answers_row entities article said (Err NoMemory) is = tt
+
+-- a node of bytes is that of their text
+pub text_found : (entities : List Entity) (article : List ℕ) (node : Node) (said : Result (List ℕ) DecodeFault) → decoded_article entities article said ≡ Ok node → (text : List ℕ) × (said ≡ Ok text) × (article_of entities article text ≡ Ok node)
+text_found entities article node (Ok text) is = (text, refl, is)
+text_found entities article node (Err e) is = absurd (let f : Err (decode_stop article e) ≡ Ok node = is in cc)

@@ -1,5 +1,5 @@
 -- Steps outside of all elements.
-use Rattle.std.proofs.Common.{◌≡◌, ◌∙◌, ℕ, ◌+◌, ◌-◌, ◌<◌, ◌≤◌, List, [], ◌∷◌, ◌++◌, suc, length, length-append, length-drop, drop, map, Bool, true, false, Option, Some, None, Result, Ok, Err, refl, ap, sym, arith, codes}
+use Rattle.std.proofs.Common.{◌≡◌, ◌∙◌, ℕ, ◌+◌, ◌-◌, ◌<◌, List, [], ◌∷◌, ◌++◌, suc, length, length-append, length-drop, drop, map, Bool, true, false, Option, Some, None, Result, Ok, Err, refl, ap, sym, arith, codes}
 use Rattle.std.specs.Prelude.{Vec, nat_eq, if◌then◌else◌}
 use Rattle.std.specs.List.{starts_with}
 use Rattle.std.specs.declared.alloc.Global.{Global}
@@ -11,19 +11,17 @@ use Rattle.document_trees.specs.Trees.{Items, Node}
 use Rattle.document_trees.specs.declared.nodes.Item.{Item}
 use Rattle.document_trees.specs.declared.nodes.Item.TheVariants.{Element, Chars, Comment, Pi}
 use Rattle.decl_set.specs.Declarations.{Entity}
-use Rattle.article_tree.specs.Frames.{Passage, left, moved, rest_of, step}
+use Rattle.article_tree.specs.Frames.{left, moved, rest_of, step}
 use Rattle.article_tree.specs.Held.{EndsApart, held_items, run_items, stacked, state_of}
 use Rattle.article_tree.specs.InPlace.{by_token_in, reading_in}
 use Rattle.article_tree.specs.Outcomes.{Fails, Refuses, standing_of}
-use Rattle.article_tree.specs.Reading.{Article, Open, State, article_by, article_step, has_root, holding, misplaced, outside, started, type_by, type_end, whole}
+use Rattle.article_tree.specs.Reading.{Article, Open, State, article_by, article_step, has_root, holding, outside, started, type_by, type_end, whole}
 use Rattle.article_tree.specs.Stops.{Standing, refused}
 use Rattle.article_tree.specs.Taken.{StandsAt}
 use Rattle.article_tree.specs.Taking.{behind, first_token}
 use Rattle.article_tree.specs.Tokens.{Tag, Token, start}
-use Rattle.article_tree.specs.Words.{is_misc}
 use Rattle.article_tree.specs.Works.{Advances, IsOutside, left_of, passage_of, size_of, work_of}
 use Rattle.article_tree.specs.declared.frames.Frame.{Frame}
-use Rattle.article_tree.specs.declared.frames.Work.{Work}
 use Rattle.article_tree.specs.declared.held.Held.{Held}
 use Rattle.article_tree.specs.declared.held.OpenElement.{OpenElement}
 use Rattle.article_tree.specs.declared.held.Run.{Run}

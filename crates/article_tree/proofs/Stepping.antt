@@ -19,12 +19,12 @@ use Rattle.article_tree.specs.Tokens.{Raw, Tag, Token, named}
 use Rattle.article_tree.specs.Words.{Names, most_elements, repeated}
 use Rattle.article_tree.specs.Frames.{Passage, IsInside, all_unread, left, moved, rest_of, unread}
 use Rattle.article_tree.specs.Held.{EndsApart, state_of}
-use Rattle.article_tree.specs.Outcomes.{Fails, Moves, Refuses, StopsBy, standing_of}
+use Rattle.article_tree.specs.Outcomes.{Fails, Refuses, StopsBy, standing_of}
 use Rattle.article_tree.specs.Reading.{Open, State, ended, entered, popped, put, started, unrepeated, values, whole, with_first}
 use Rattle.article_tree.specs.Stops.{Standing, malformed, refused, standing_in, stopped, value_stop}
 use Rattle.article_tree.specs.InPlace.{closed_in, ended_in, noted, reading_in, referred_in}
 use Rattle.article_tree.specs.Taking.{first_token}
-use Rattle.article_tree.specs.Works.{Advances, Stands, Stepped, does, left_of, passage_of, size_of, work_of}
+use Rattle.article_tree.specs.Works.{Advances, Stands, does, left_of, passage_of, size_of, work_of}
 use Rattle.article_tree.specs.declared.frames.Frame.{Frame}
 use Rattle.article_tree.specs.declared.frames.Work.{Work}
 use Rattle.article_tree.specs.declared.held.Held.{Held}

@@ -6,6 +6,8 @@ ghost use Rattle.document_trees.specs.Trees.{Items, Node, IsDocument, are_chars}
 ghost use Rattle.decl_set.specs.Asked.{is_entity_kept};
 ghost use Rattle.decl_set.specs.Declarations.{Entity};
 ghost use Rattle.article_tree.specs.Content.{Pieces, items_of};
+ghost use Rattle.jats_chars.specs.Decoded.{text_of};
+ghost use Rattle.article_tree.specs.Decoding.{article_from};
 ghost use Rattle.article_tree.specs.Tokens.{Token, Begins};
 ghost use Rattle.article_tree.specs.Taking.{first_token};
 ghost use Rattle.article_tree.specs.Stops.{Standing};
@@ -33,6 +35,11 @@ pub fn content_law()
 /// Reading gives a node exactly where the text is an article of it.
 pub fn article_law()
     ensures { (entities : List Entity) (article text : List ℕ) (node : Node) → (article_of entities article text ≡ Ok node) ↔ IsArticle entities text node }
+{}
+
+/// Bytes give a node exactly where they are decoded to a text that is an article of it.
+pub fn reading_law()
+    ensures { (entities : List Entity) (article bytes : List ℕ) (node : Node) → (article_from entities article bytes ≡ Ok node) ↔ ((text : List ℕ) × (text_of bytes ≡ Ok text) × IsArticle entities text node) }
 {}
 
 /// What is written of a writable node is read back, whatever is declared.

@@ -1,4 +1,4 @@
-use Rattle.std.proofs.Common.{◌≡◌, ◌∙◌, [], None, Some, refl, sym}
+use Rattle.std.proofs.Common.{◌∙◌, None, Some, refl, sym}
 use Rattle.std.proofs.lemmas.Bool.{cond-true, cond-false}
 use Rattle.jats_chars.specs.Classes.{is_space}
 use Rattle.article_tree.specs.Held.{state_of}

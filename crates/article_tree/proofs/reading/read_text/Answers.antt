@@ -1,10 +1,10 @@
-use Rattle.std.proofs.Common.{◌≡◌, [], false, None, refl}
+use Rattle.std.proofs.Common.{◌≡◌, false, None, refl}
 use Rattle.article_tree.specs.Held.{state_of}
 use Rattle.article_tree.specs.Reading.{begun}
 use Rattle.article_tree.specs.Works.{work_of}
 use Rattle.article_tree.specs.declared.frames.Frame.{Frame}
 use Rattle.article_tree.specs.declared.held.Held.{Held}
-use Rattle.article_tree.proofs.Beginning.{begins, fails_said, keeps, smaller}
+use Rattle.article_tree.proofs.Beginning.{begins}
 use Rattle.article_tree.proofs.reading.read_text.Goals as goal
 
 pub loop-more-init : goal.loop-more-init

@@ -1,4 +1,4 @@
-use Rattle.std.proofs.Common.{◌≡◌, ◌∙◌, refl, sym, ap, length, arith}
+use Rattle.std.proofs.Common.{◌≡◌, ◌∙◌, refl, sym, ap, arith}
 use Rattle.article_tree.specs.Held.{EndsApart, state_of}
 use Rattle.article_tree.specs.InPlace.{noted}
 use Rattle.article_tree.specs.Reading.{State}

@@ -1,11 +1,10 @@
-use Rattle.std.proofs.Common.{◌≡◌, ◌∙◌, Bool, [], ◌∷◌, false, refl, sym, ap, length, map}
-use Rattle.std.specs.Prelude.{None}
+use Rattle.std.proofs.Common.{[], ◌∷◌, false, refl}
 use Rattle.jats_chars.specs.Classes.{is_space}
 use Rattle.document_trees.specs.Trees as tree
-use Rattle.article_tree.specs.Held.{EndsApart, state_of}
+use Rattle.article_tree.specs.Held.{state_of}
 use Rattle.article_tree.specs.Taken.{StandsAt, tag_of, token_of}
-use Rattle.article_tree.specs.Tokens.{letter, section, coded, named, remark, instruction, start, stop}
-use Rattle.article_tree.specs.Works.{Stands, work_of}
+use Rattle.article_tree.specs.Tokens.{letter, section, coded, remark, instruction, start, stop}
+use Rattle.article_tree.specs.Works.{work_of}
 use Rattle.article_tree.specs.Outcomes.{standing_of}
 use Rattle.article_tree.proofs.Standing.{named_name, start_raw, target_name}
 use Rattle.article_tree.proofs.Stepping.{advances, ended_rises, fails, no_token, put_advances, started_rises}
