@@ -19,6 +19,7 @@ use crate::values::{name_of, read_values};
 use decl_set::DeclSet;
 use document_trees::AttValues;
 use jats_chars::{Name, NameList, NoMemory};
+use jats_fault::numbers;
 use pe_expansion::Budget;
 use std::alloc::Global;
 
@@ -41,7 +42,7 @@ fn test_repeated(
             alloc,
             stand,
             at,
-            62,
+            numbers::REPEATED_ATTRIBUTE,
             name.text().as_slice(),
             again.text().as_slice(),
         )),
@@ -83,7 +84,13 @@ fn enter_element(
     ensures { (raws : List Raw) → Moves (unrepeated 0 (standing_of stand.now) at (state_of held.old) (record { name = name; atts = raws; closed = closed }) atts spent None) held.new result }
 {
     if held.opens.len() >= MOST_ELEMENTS {
-        return Err(refused_name(alloc, stand, at, 65, name.text().as_slice()));
+        return Err(refused_name(
+            alloc,
+            stand,
+            at,
+            numbers::ELEMENT_TOO_DEEP,
+            name.text().as_slice(),
+        ));
     }
     put_element(alloc, held, name, atts, spent, closed)?;
     Ok(())
@@ -136,7 +143,14 @@ pub fn end_element(
         None => Err(malformed(alloc, stand, at)),
         Some(open) => {
             if open.name.text().as_slice() != name {
-                return Err(refused_names(alloc, stand, at, 61, open.name.text().as_slice(), name));
+                return Err(refused_names(
+                    alloc,
+                    stand,
+                    at,
+                    numbers::TAG_MISMATCH,
+                    open.name.text().as_slice(),
+                    name,
+                ));
             }
             close_element(held)?;
             Ok(())

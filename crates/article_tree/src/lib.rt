@@ -38,8 +38,8 @@ mod written;
 
 pub use document_trees::{AttValues, Item, ItemList, Node};
 pub use laws::{
-    article_law, content_law, document_law, fault_law, one_law, placing_law, reading_law, token_law,
-    writing_law,
+    article_law, content_law, document_law, fault_law, one_law, placing_law, reading_law,
+    token_law, writing_law,
 };
 pub use reading::read_article;
 pub use stops::ArticleFault;

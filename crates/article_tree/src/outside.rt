@@ -25,7 +25,7 @@ use decl_set::DeclSet;
 use declaration_bodies::read_ids;
 use document_trees::{Item, Node};
 use jats_chars::{NoMemory, is_space};
-use jats_fault::Details;
+use jats_fault::{Details, numbers};
 use std::alloc::Global;
 use text_fronts::{read_space, skipped};
 
@@ -70,9 +70,21 @@ fn misplaced(alloc: Global, stand: &Stand, at: usize, held: &Held) -> ArticleFau
     ensures { (typed : Bool) → Refuses (spec.misplaced (standing_of stand.now) at (record { state = state_of held.now; typed = typed })) result }
 {
     if has_root(held) {
-        refused(alloc, stand, at, 66, Details::new(alloc))
+        refused(
+            alloc,
+            stand,
+            at,
+            numbers::REST_AFTER_ROOT,
+            Details::new(alloc),
+        )
     } else {
-        refused(alloc, stand, at, 60, Details::new(alloc))
+        refused(
+            alloc,
+            stand,
+            at,
+            numbers::ARTICLE_MALFORMED,
+            Details::new(alloc),
+        )
     }
 }
 
@@ -82,14 +94,32 @@ pub fn whole(alloc: Global, stand: &Stand, end: usize, held: Held) -> Result<Nod
 {
     let mut items = held.items;
     if held.opens.len() > 0 {
-        return Err(refused(alloc, stand, end, 60, Details::new(alloc)));
+        return Err(refused(
+            alloc,
+            stand,
+            end,
+            numbers::ARTICLE_MALFORMED,
+            Details::new(alloc),
+        ));
     }
     if items.len() == 0 {
-        return Err(refused(alloc, stand, end, 60, Details::new(alloc)));
+        return Err(refused(
+            alloc,
+            stand,
+            end,
+            numbers::ARTICLE_MALFORMED,
+            Details::new(alloc),
+        ));
     }
     match items.remove(0) {
         Item::Element(node) => Ok(node),
-        _ => Err(refused(alloc, stand, end, 60, Details::new(alloc))),
+        _ => Err(refused(
+            alloc,
+            stand,
+            end,
+            numbers::ARTICLE_MALFORMED,
+            Details::new(alloc),
+        )),
     }
 }
 
@@ -154,16 +184,34 @@ fn pass_type(alloc: Global, frame: &mut Frame, behind: &[char]) -> Result<bool, 
 {
     let at = frame.at;
     let Some(after) = type_end(alloc, behind)? else {
-        return Err(refused(alloc, &frame.stand, at, 60, Details::new(alloc)));
+        return Err(refused(
+            alloc,
+            &frame.stand,
+            at,
+            numbers::ARTICLE_MALFORMED,
+            Details::new(alloc),
+        ));
     };
     if after.starts_with(['>'].as_slice()) {
         frame.at = frame.text.len() - (after.len() - 1);
         return Ok(true);
     }
     if after.starts_with(['['].as_slice()) {
-        return Err(refused(alloc, &frame.stand, at, 67, Details::new(alloc)));
+        return Err(refused(
+            alloc,
+            &frame.stand,
+            at,
+            numbers::INTERNAL_SUBSET,
+            Details::new(alloc),
+        ));
     }
-    Err(refused(alloc, &frame.stand, at, 60, Details::new(alloc)))
+    Err(refused(
+        alloc,
+        &frame.stand,
+        at,
+        numbers::ARTICLE_MALFORMED,
+        Details::new(alloc),
+    ))
 }
 
 /// A step outside of all elements. The answer is whether a document type declaration may no longer come.

@@ -6,7 +6,7 @@ ghost use Rattle.article_tree.specs.Stops as spec;
 
 use decl_set::ValueFault;
 use jats_chars::{Name, NoMemory, Text};
-use jats_fault::{Details, Fault, Place};
+use jats_fault::{Details, Fault, Place, numbers};
 use std::alloc::{AllocFailed, Global};
 
 /// Why an article is not read.
@@ -158,8 +158,20 @@ pub fn malformed(alloc: Global, stand: &Stand, at: usize) -> ArticleFault
     ensures { Refuses (spec.malformed (standing_of stand.now) at) result }
 {
     match &stand.inner {
-        None => refused(alloc, stand, at, 60, Details::new(alloc)),
-        Some(inner) => refused_name(alloc, stand, at, 69, inner.name.text().as_slice()),
+        None => refused(
+            alloc,
+            stand,
+            at,
+            numbers::ARTICLE_MALFORMED,
+            Details::new(alloc),
+        ),
+        Some(inner) => refused_name(
+            alloc,
+            stand,
+            at,
+            numbers::ENTITY_NESTING,
+            inner.name.text().as_slice(),
+        ),
     }
 }
 
@@ -175,21 +187,51 @@ pub fn value_stop(
 {
     match fault {
         ValueFault::EntityUnknown(entity) => {
-            refused_name(alloc, stand, at, 63, entity.text().as_slice())
+            refused_name(
+                alloc,
+                stand,
+                at,
+                numbers::ENTITY_UNKNOWN,
+                entity.text().as_slice(),
+            )
         }
         ValueFault::EntityExternal(entity) => {
-            refused_name(alloc, stand, at, 64, entity.text().as_slice())
+            refused_name(
+                alloc,
+                stand,
+                at,
+                numbers::ENTITY_EXTERNAL,
+                entity.text().as_slice(),
+            )
         }
         ValueFault::RecursiveEntity(entity) => {
-            refused_name(alloc, stand, at, 28, entity.text().as_slice())
+            refused_name(
+                alloc,
+                stand,
+                at,
+                numbers::RECURSIVE_ENTITY,
+                entity.text().as_slice(),
+            )
         }
         ValueFault::EntityTooDeep(entity) => {
-            refused_name(alloc, stand, at, 24, entity.text().as_slice())
+            refused_name(
+                alloc,
+                stand,
+                at,
+                numbers::ENTITY_TOO_DEEP,
+                entity.text().as_slice(),
+            )
         }
         ValueFault::ExpansionOver(entity) => {
-            refused_name(alloc, stand, at, 25, entity.text().as_slice())
+            refused_name(
+                alloc,
+                stand,
+                at,
+                numbers::EXPANSION_OVER,
+                entity.text().as_slice(),
+            )
         }
-        ValueFault::LessThan => refused_name(alloc, stand, at, 27, name),
+        ValueFault::LessThan => refused_name(alloc, stand, at, numbers::LESS_THAN_IN_VALUE, name),
         ValueFault::Malformed => malformed(alloc, stand, at),
         ValueFault::NoMemory => ArticleFault::NoMemory,
     }
