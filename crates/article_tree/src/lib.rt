@@ -10,9 +10,9 @@
 //! text is an article of one node at most, and that what is written of a writable node is read back.
 //!
 //! `read_article` gives the node of an article from its bytes, and `write_article` the text of a node, both without
-//! recursion. The parts of reading are calls with the contracts of their definitions: `tokens` gives the token at a place, lent from the text, `elements` does what tags do, with the values of
-//! attributes by `values`, `entities` opens a reference, `held` keeps what was read, and `stops` makes the refusals. `Works`
-//! says what a stack of texts still gives.
+//! recursion. The parts of reading are calls with the contracts of their definitions: `tokens` gives the token at a place,
+//! lent from the text, `elements` does what tags do, with the values of attributes by `values`, `entities` opens a reference,
+//! `held` keeps what was read, and `stops` makes the refusals. `Works` says what a stack of texts still gives.
 #![tactic(auto)]
 
 mod elements;
