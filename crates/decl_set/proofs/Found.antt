@@ -18,7 +18,7 @@ or_false true b h = cc
 or_false false b h = (refl, h)
 
 module _ {X : Type 0} where
-  fails_at : (p : List ℕ × X → Bool) (es : List (List ℕ × X)) (k : ℕ) (e : List ℕ × X) → list_any p es ≡ false → slice_get es k ≡ Some e → p e ≡ false
+  pub fails_at : (p : List ℕ × X → Bool) (es : List (List ℕ × X)) (k : ℕ) (e : List ℕ × X) → list_any p es ≡ false → slice_get es k ≡ Some e → p e ≡ false
   fails_at p [] k e none at = cc
   fails_at p (x ∷ es) zero e none at = let same : x ≡ e = cc in ap p (sym same) ∙ (or_false (p x) (list_any p es) none).0
   fails_at p (x ∷ es) (suc k) e none at = fails_at p es k e (or_false (p x) (list_any p es) none).1 at

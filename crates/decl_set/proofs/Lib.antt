@@ -1,5 +1,6 @@
 pub mod AddedAttributes
 pub mod CollapsedTexts
+pub mod ChildPlaces
 pub mod CoveredOdd
 pub mod DeclaredLists
 pub mod Found

@@ -11,6 +11,7 @@ pub mod Steps
 pub mod Validity
 pub mod Oddness
 pub mod Breaks
+pub mod Children
 pub mod Laws
 pub mod AttributeSteps
 pub mod Judgements

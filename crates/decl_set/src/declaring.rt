@@ -15,7 +15,7 @@ use crate::{DeclFault, DeclSet, EntityDef};
 use content_models::Content;
 use entity_catalog::Ids;
 use indexmap::IndexMap;
-use jats_chars::{Name, NoMemory};
+use jats_chars::{ListOf, Name, NoMemory};
 use position_automata::{Automaton, BuildFault, build};
 use std::alloc::Global;
 
@@ -73,6 +73,7 @@ impl DeclSet {
             Err(NoMemory) => Err(DeclFault::NoMemory),
             Ok(()) => {
                 self.follows += follows;
+                self.children = ListOf::new(self.alloc);
                 Ok(())
             }
         }

@@ -12,6 +12,7 @@
 
 mod attributes;
 mod breaks;
+mod children;
 mod declaring;
 mod ending;
 mod entity;

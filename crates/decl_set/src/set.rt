@@ -8,11 +8,12 @@ ghost use Rattle.decl_set.specs.Declarations.{none_declared, content_in, list_in
 ghost use Rattle.decl_set.specs.Steps.{TellsStepAt, TellsWithin, any_step, steps_at};
 
 use crate::EntityDef;
+use crate::children::Children;
 use attlist_merge::AttList;
 use content_models::Content;
 use entity_catalog::Ids;
 use indexmap::IndexMap;
-use jats_chars::Name;
+use jats_chars::{ListOf, Name};
 use position_automata::Automaton;
 use std::alloc::Global;
 use std::marker::Model;
@@ -34,6 +35,7 @@ pub struct DeclSet {
     pub(crate) entities: IndexMap<Name, EntityDef>,
     pub(crate) notations: IndexMap<Name, Ids>,
     pub(crate) follows: u64,
+    pub(crate) children: ListOf<Children>,
 }
 
 impl Model for DeclSet {
@@ -75,6 +77,7 @@ impl DeclSet {
             entities: IndexMap::new(alloc),
             notations: IndexMap::new(alloc),
             follows: 0,
+            children: ListOf::new(alloc),
         }
     }
 

@@ -8,6 +8,7 @@ ghost use Rattle.entity_catalog.specs.Outcomes.{Resolves};
 ghost use Rattle.entity_catalog.specs.Resolution as spec;
 
 use crate::paths::join;
+use crate::public_ids::collapse_public;
 use crate::{Catalog, Ids, ResolveFault};
 use jats_chars::Text;
 use std::alloc::Global;
@@ -29,7 +30,7 @@ fn file_or_join(
 
 /// The file that an external identifier names, where base is the name of the file in which it stands (XML 1.0, 4.2.2).
 /// It is the file of the first SYSTEM line with the same system identifier; else the file of the first PUBLIC line with
-/// the same collapsed public identifier; else the join of the base and the system identifier, as `join` says.
+/// the same public identifier, both collapsed; else the join of the base and the system identifier, as `join` says.
 /// `PathEscapes` comes exactly where no line names it and that join leaves the folder.
 #[tactic(auto, unfolding(crate::specs::Resolution::resolve))]
 pub fn resolve(
@@ -44,8 +45,9 @@ pub fn resolve(
     match ids {
         Ids::System(system) => file_or_join(alloc, catalog.system_file(system), base, system),
         Ids::Public(public, system) => {
+            let collapsed = collapse_public(alloc, public)?;
             let by_system = catalog.system_file(system);
-            let named = by_system.or_else(|| catalog.public_file(public));
+            let named = by_system.or_else(|| catalog.public_file(&collapsed));
             file_or_join(alloc, named, base, system)
         }
         Ids::PublicOnly(_) => unreachable!(),

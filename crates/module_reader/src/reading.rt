@@ -63,11 +63,13 @@ fn end_stop(alloc: Global, entry: &Text, fault: DeclFault) -> Stop
     }
 }
 
-/// A set, which keeps its constraints.
-fn kept(set: DeclSet) -> DeclSet
+/// A set that is whole, which keeps its constraints. The elements that its contents name are looked up once, for those who go
+/// over steps; where there is no memory for that, the set answers the same by names.
+fn kept(mut set: DeclSet) -> DeclSet
     ensures same { result ≡ set }
     ensures kept { IsKept result }
 {
+    let _ = set.number_children();
     let _count = set.count();
     set
 }

@@ -1,6 +1,7 @@
 -- Acceptance and steps of the states of a content, as functions (XML 1.0, 3.2.1).
-use Rattle.std.specs.Prelude.{◌≡◌, ◌≤◌, ◌<◌, ℕ, ◌==◌, Bool, List, [], length, map, Option, Some, None, Contains, find, nat_eq, bytes_eq, if◌then◌else◌, IsTrue, ◌↔◌}
+use Rattle.std.specs.Prelude.{◌≡◌, ◌≤◌, ◌<◌, ℕ, ◌==◌, Bool, List, [], length, map, Option, Some, None, Contains, find, nat_eq, bytes_eq, slice_get, if◌then◌else◌, IsTrue, ◌↔◌}
 use Rattle.std.specs.List.{list_any}
+use Rattle.std.specs.Option.{option_map}
 use Rattle.content_models.specs.declared.content.Content.{Content}
 use Rattle.content_models.specs.declared.content.Content.TheVariants.{Empty, Any, Mixed, Children}
 use Rattle.content_models.specs.Model.{Chars, model, among}
@@ -33,6 +34,11 @@ step_on Empty i name = None
 step_on Any i name = if i == 0 then Some 0 else None
 step_on (Mixed listed) i name = if i == 0 then (if among listed name then Some 0 else None) else None
 step_on (Children part) i name = find (λ j. bytes_eq name (name_at (letters (model part)) j)) (positions_after (model part) i)
+
+-- a place among names with the state that follows, read as the name at that place
+abbrev pub named : List Chars → Option (ℕ × ℕ) → Option (Chars × ℕ)
+named names None = None
+named names (Some s) = option_map {U = Chars × ℕ} (λ name. (name, s.1)) (slice_get names s.0)
 
 -- ---- what they say
 

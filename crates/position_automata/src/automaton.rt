@@ -1,6 +1,6 @@
 //! Automata.
 
-ghost use Rattle.std.specs.Prelude.{◌≡◌, ◌≤◌, ◌<◌, ℕ, IfOk, MatchOption, false, slice_index_or, [], Contains, Some, None, if◌then◌else◌, slice_get, map, ◌-◌};
+ghost use Rattle.std.specs.Prelude.{◌≡◌, ◌≤◌, ◌<◌, ℕ, IfOk, IfSome, MatchOption, false, slice_index_or, [], Contains, Some, None, if◌then◌else◌, slice_get, map, ◌-◌, length};
 ghost use Rattle.std.specs.Bool.{Decides};
 ghost use Rattle.std.specs.Option.{option_map};
 ghost use Rattle.content_models.specs.declared.content.Content.TheVariants.{Children};
@@ -9,7 +9,7 @@ ghost use Rattle.content_models.specs.Proper.{IsProper};
 ghost use Rattle.position_automata.specs.Automata as spec;
 ghost use Rattle.position_automata.specs.Marked.{count};
 ghost use Rattle.position_automata.specs.Rows.{at_position};
-ghost use Rattle.position_automata.specs.Stepping.{does_accept, steps_of, step_on};
+ghost use Rattle.position_automata.specs.Stepping.{does_accept, steps_of, step_on, named};
 ghost use Rattle.position_automata.specs.Tables.{step_names, IsSimple, Builds};
 
 use crate::BuildFault;
@@ -156,6 +156,41 @@ fn listed_at(letters: &NameList, k: usize) -> Option<(&Name, u32)>
     }
 }
 
+/// The place of the name at a position, with the position.
+fn place_at(letters: &NameList, position: u32) -> Option<(usize, u32)>
+    requires { 0 < position }
+    ensures value { named letters.now result ≡ option_map {U = Chars × ℕ} (λ name. (name, position)) (slice_get letters.now (position - 1)) }
+    ensures within { IfSome result (λ s. s.0 < length letters.now) }
+{
+    let at = (position - 1) as usize;
+    if at < letters.len() {
+        Some((at, position))
+    } else {
+        None
+    }
+}
+
+fn position_place(letters: &NameList, position: Option<u32>) -> Option<(usize, u32)>
+    ensures value { named letters.now result ≡ at_position letters.now position }
+    ensures within { IfSome result (λ s. s.0 < length letters.now) }
+{
+    match position {
+        None => None,
+        Some(p) => { if p == 0 { None } else { place_at(letters, p) } }
+    }
+}
+
+fn listed_place(letters: &NameList, k: usize) -> Option<(usize, u32)>
+    ensures value { named letters.now result ≡ slice_get (map {B = Chars × ℕ} (λ name. (name, 0)) letters.now) k }
+    ensures within { IfSome result (λ s. s.0 < length letters.now) }
+{
+    if k < letters.len() {
+        Some((k, 0))
+    } else {
+        None
+    }
+}
+
 fn row_position(rows: &[Row], state: u32, k: usize) -> Option<u32>
     ensures { result ≡ option_map (λ s. s.1) (slice_get (slice_index_or rows.now state []) k) }
 {
@@ -246,6 +281,33 @@ impl Automaton {
             Content::Mixed(_) => listed_at(&self.letters, k),
             Content::Empty | Content::Any => None,
         }
+    }
+
+    /// The k-th step of a state, counted from 0, as `step_of` tells it, with the place of its name among those that occur
+    /// in the content in the name's stead: by this place a caller may keep what it knows of the name. None exactly where
+    /// `step_of` answers None.
+    pub fn place_of(&self, state: u32, k: usize) -> Option<(usize, u32)>
+        requires { state < spec.states self.now }
+        ensures tells { spec.TellsStep self.now state k (named (step_names self.now) result) }
+        ensures value { named (step_names self.now) result ≡ slice_get (steps_of self.now state) k }
+        ensures within { IfSome result (λ s. s.0 < length (step_names self.now)) }
+    {
+        match &self.content {
+            Content::Children(_) => position_place(
+                &self.letters,
+                row_position(self.rows.as_slice(), state, k),
+            ),
+            Content::Mixed(_) => listed_place(&self.letters, k),
+            Content::Empty | Content::Any => None,
+        }
+    }
+
+    /// The names that occur in the content, in order: those of a model as they stand, those of mixed content as they are
+    /// listed. EMPTY and ANY have none.
+    pub fn names(&self) -> &[Name]
+        ensures { result.now ≡ step_names self.now }
+    {
+        self.letters.as_slice()
     }
 
     /// The number of pairs of a state and a position that may come next: of mixed content the number of its names, and 0

@@ -1,7 +1,8 @@
-use Rattle.std.proofs.Common.{◌≡◌, ◌<◌, ◌≤◌, ◌+◌, None, length, subst, sym, arith}
+use Rattle.std.proofs.Common.{◌≡◌, ◌<◌, ◌≤◌, ◌+◌, None, length, map, subst, sym, arith}
 use Rattle.decl_set.specs.Declarations.{Declarations, content_in, follows_in}
-use Rattle.decl_set.specs.DeclaredBy.{declared_by}
+use Rattle.decl_set.specs.DeclaredBy.{declared_by, as_element}
 use Rattle.decl_set.proofs.Growing.{not_declared, elements_kept, elements_built, elements_counted}
+use Rattle.decl_set.proofs.ChildPlaces.{none_are_in}
 use Rattle.decl_set.proofs.set.DeclSet.add_element.Goals as goal
 
 pub put-requires : goal.put-requires
@@ -19,4 +20,5 @@ invariant_of-self-in-Ok c =
       kept = elements_kept s c.put.new.map.entries c.args.name c.args.declared c.args.follows c.self.invariant.kept c.in-Ok.ensures.ok (subst P (sym c.self.view_is) c.requires.new) (subst Q (sym c.self.view_is) c.requires.few) c.requires.element c.requires.judged within;
       built = elements_built s.elements.entries c.put.new.map.entries c.args.name c.args.declared c.self.invariant.built c.in-Ok.ensures.ok c.requires.built;
       counted = elements_counted s.elements.entries c.put.new.map.entries c.args.name c.args.declared s.follows c.args.follows c.self.invariant.counted c.in-Ok.ensures.ok c.requires.judged;
+      children_are = none_are_in (map as_element c.put.new.map.entries) _ c.new.ensures;
     }

@@ -10,4 +10,5 @@ invariant_of-self c =
       kept = entities_kept c.self.inside c.put.new.map.entries c.args.name c.args.def c.put.result c.self.invariant.kept c.put.ensures.ok c.put.ensures.err c.text-text.ensures.name c.requires.def (subst P (sym c.self.view_is) c.requires.new);
       built = c.self.invariant.built;
       counted = c.self.invariant.counted;
+      children_are = c.self.invariant.children_are;
     }

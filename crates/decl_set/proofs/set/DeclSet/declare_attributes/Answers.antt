@@ -21,6 +21,7 @@ invariant_of-self c =
       kept = lists_kept (declared_by c.self.inside) c.put.new.lists.entries c.args.budget.now.spent c.put.new.budget.spent c.args.raw.now c.put.result c.self.invariant.kept c.requires some c.put.ensures;
       built = c.self.invariant.built;
       counted = c.self.invariant.counted;
+      children_are = c.self.invariant.children_are;
     }
 
 pub returns : goal.returns
