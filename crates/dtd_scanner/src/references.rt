@@ -76,16 +76,10 @@ pub fn reference_len(text: &[char]) -> Option<usize>
     }
 }
 
-fn is_digit(c: char) -> bool
-    ensures { result ≡ spec.is_digit c }
-{
-    '0' <= c && c <= '9'
-}
-
 fn is_hex_digit(c: char) -> bool
     ensures { result ≡ spec.is_hex_digit c }
 {
-    is_digit(c) || ('A' <= c && c <= 'F') || ('a' <= c && c <= 'f')
+    c.is_ascii_digit() || ('A' <= c && c <= 'F') || ('a' <= c && c <= 'f')
 }
 
 fn digit_value(digit: char) -> u32
@@ -163,7 +157,7 @@ fn digits_len(text: &[char]) -> usize
     ensures value { result ≡ prefix_len spec.is_digit text.now }
     ensures within { result ≤ length text.now }
 {
-    text.iter().take_while(|c| is_digit(**c)).count()
+    text.iter().take_while(|c| c.is_ascii_digit()).count()
 }
 
 fn hex_digits_len(text: &[char]) -> usize

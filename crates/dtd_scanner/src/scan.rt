@@ -1,6 +1,6 @@
 //! The item at a place.
 
-ghost use Rattle.std.specs.Prelude.{◌≡◌, ◌+◌, ◌<◌, ◌≤◌, IfOk, length};
+ghost use Rattle.std.specs.Prelude.{◌≡◌, ◌+◌, ◌<◌, ◌≤◌, IfOk, length, take};
 ghost use Rattle.dtd_scanner.specs.Items.{Scans, shortest};
 ghost use Rattle.dtd_scanner.specs.Scanning as spec;
 
@@ -67,6 +67,24 @@ fn first_item(text: &[char]) -> Result<Item, ScanFault>
     first_declaration(text)
 }
 
+/// The item at a place of these characters.
+#[tactic(auto, using(crate::proofs::Agreement::scanned))]
+fn item_from(text: &[char], at: usize) -> Result<Item, ScanFault>
+    requires { at < length text.now }
+    ensures scans { Scans text.now at result }
+    ensures value { result ≡ spec.item_at text.now at }
+    ensures far { IfOk result (λ item. (at + shortest item.kind ≤ item.end) × (item.end ≤ length text.now)) }
+{
+    let (_, rest) = text.split_at(at);
+    match first_item(rest) {
+        Err(fault) => Err(fault),
+        Ok(item) => Ok(Item {
+            kind: item.kind,
+            end: at + item.end,
+        }),
+    }
+}
+
 /// The item at a place of the text, which is below its length: its kind, and the place where it ends. White space is the
 /// longest run of it (XML 1.0, 2.3), a comment has no `--` inside and no `-` at the end of its inside (2.5), the target
 /// of a processing instruction is no `xml` in any case of letters (2.6), the start of a conditional section reaches to
@@ -74,7 +92,6 @@ fn first_item(text: &[char]) -> Result<Item, ScanFault>
 ///
 /// `Malformed` comes exactly where no item begins at the place, and `Unclosed` exactly where one begins and none ends in
 /// the text.
-#[tactic(auto, using(crate::proofs::Agreement::scanned))]
 pub fn next_item(text: &Text, at: usize) -> Result<Item, ScanFault>
     requires { at < length text.now }
     ensures scans { Scans text.now at result }
@@ -83,14 +100,21 @@ pub fn next_item(text: &Text, at: usize) -> Result<Item, ScanFault>
     ensures value { result ≡ spec.item_at text.now at }
     ensures far { IfOk result (λ item. (at + shortest item.kind ≤ item.end) × (item.end ≤ length text.now)) }
 {
-    let (_, rest) = text.as_slice().split_at(at);
-    match first_item(rest) {
-        Err(fault) => Err(fault),
-        Ok(item) => Ok(Item {
-            kind: item.kind,
-            end: at + item.end,
-        }),
-    }
+    item_from(text.as_slice(), at)
+}
+
+/// The item at a place of the text, as `next_item` finds it in the text that is cut off at `end`: the place is below the
+/// end, and the end at most the length. Nothing behind the end is looked at, and no memory is taken.
+pub fn next_item_within(text: &Text, at: usize, end: usize) -> Result<Item, ScanFault>
+    requires { (at < end) × (end ≤ length text.now) }
+    ensures scans { Scans (take end text.now) at result }
+
+    // The same, computed, and how far the item goes on.
+    ensures value { result ≡ spec.item_at (take end text.now) at }
+    ensures far { IfOk result (λ item. (at + shortest item.kind ≤ item.end) × (item.end ≤ end)) }
+{
+    let (part, _) = text.as_slice().split_at(end);
+    item_from(part, at)
 }
 
 #[cfg(test)]

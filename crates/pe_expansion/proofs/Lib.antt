@@ -7,4 +7,7 @@ pub mod OpenNames
 pub mod Waiting
 pub mod Sections
 pub mod Spending
+pub mod KeptTexts
+pub mod Numbering
+pub mod Steady
 mod Examples

@@ -8,4 +8,5 @@ pub mod Expansion
 pub mod Outcomes
 pub mod Opens
 pub mod Frames
+pub mod Pausing
 pub mod Nesting

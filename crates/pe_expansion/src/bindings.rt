@@ -2,7 +2,7 @@
 
 ghost use Rattle.std.specs.Prelude.{◌≡◌, [], option_map, IfSome, Some, position, bytes_eq, slice_get, length};
 ghost use Rattle.std.specs.Option.{option_copied};
-ghost use Rattle.pe_expansion.specs.Bound.{IsOuter, given_text, with_outer, text_bound, none_bound};
+ghost use Rattle.pe_expansion.specs.Bound.{IsOuter, IsPlaceOf, given_text, with_outer, text_bound, none_bound};
 ghost use Rattle.pe_expansion.specs.Binds.{Binds};
 
 use entity_catalog::Ids;
@@ -127,11 +127,23 @@ impl Bindings {
         self.entries.len()
     }
 
-    /// The place of a name in order of binding, counted from 0, or None exactly where it is not bound. Places stay.
-    pub fn number_of(&self, name: &[char]) -> Option<usize>
-        ensures { result ≡ position (λ e. bytes_eq name.now e.0) self.now }
+    /// The place of a name in order of binding, counted from 0, or None exactly where it is not bound. Places stay. What is
+    /// bound at the place is what `text_of` gives. No memory is taken.
+    pub fn number_of(&self, name: &Name) -> Option<usize>
+        ensures place { result ≡ position (λ e. bytes_eq name.now e.0) self.now }
+        ensures text { IsPlaceOf self.now name.now result }
     {
-        self.entries.get_index_of(Spelled { name })
+        self.entries.get_index_of(name)
+    }
+
+    /// What is bound at a place counted from 0, or None exactly where the place is the length or more. No memory is taken.
+    pub fn text_at(&self, number: usize) -> Option<&PeText>
+        ensures { option_copied result ≡ option_map (λ e. e.1) (slice_get self.now number) }
+    {
+        match self.entries.get_index(number) {
+            None => None,
+            Some((_, text)) => Some(text),
+        }
     }
 
     /// The name that is bound at a place counted from 0, and what it is bound to, or None exactly where the place is the

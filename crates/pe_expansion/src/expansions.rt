@@ -5,10 +5,32 @@ ghost use Rattle.pe_expansion.specs.Expansion as spec;
 ghost use Rattle.pe_expansion.specs.Outcomes.{Expands};
 
 use crate::pieces::Manner;
-use crate::stack::expanded;
-use crate::{Bindings, Budget, PeFault};
+use crate::{Bindings, Budget, PausedExpansion, PeFault, Progress};
 use jats_chars::{NameList, Text};
 use std::alloc::Global;
+
+/// The expansion of a text, where the names of the chain are open.
+fn expanded(
+    alloc: Global,
+    manner: Manner,
+    bound: &Bindings,
+    chain: &NameList,
+    text: &[char],
+    budget: &mut Budget,
+) -> Result<Text, PeFault>
+    ensures gives { Expands (spec.expansion_of manner bound.now chain.now budget.old.spent text.now) budget.old.spent budget.new.spent result }
+    ensures rises { budget.old.spent ≤ budget.new.spent }
+{
+    let paused = PausedExpansion::new(alloc, manner, budget.spent);
+    match paused.resume(alloc, bound, chain, text) {
+        Err(fault) => Err(fault),
+        Ok(Progress::Waits(name, _)) => Err(PeFault::NotLoaded(name)),
+        Ok(Progress::Done(text, spent)) => {
+            budget.spent = spent;
+            Ok(text)
+        }
+    }
+}
 
 /// What an entity value stands for, where the names of the chain are open (XML 1.0, 4.4.5 and 4.5). A character reference
 /// gives its character, a reference to a parameter entity what the entity's text stands for, in which quotes are plain

@@ -8,8 +8,9 @@
 //! a reference is expanded in its place, one level deeper, with its name open. `specs/Opening.antt` says when a name may
 //! open, and `specs/Pieces.antt` what a text begins with. The answer is the whole text with the count of characters that
 //! were included, or the first thing that stops the expansion. The code writes into one text, and texts that wait stand on
-//! a stack (`specs/Frames.antt`); no text is copied to be read. Of each open text one flag says whether what is written of it
-//! breaks nesting so far (`specs/Nesting.antt`), so that what is written is never read again.
+//! a stack (`specs/Frames.antt`); no text is copied to be read. An expansion that stops where a text is not loaded is a
+//! `PausedExpansion`, which goes on there once it is (`specs/Pausing.antt`). Of each open text one flag says whether what is
+//! written of it breaks nesting so far (`specs/Nesting.antt`), so that what is written is never read again.
 //!
 //! `ignored_end` finds the end of an ignored section (`specs/Ignored.antt`).
 #![tactic(auto)]
@@ -18,7 +19,9 @@ mod bindings;
 mod expansions;
 mod faults;
 mod ignored;
+mod laws;
 mod openings;
+mod pausing;
 mod pieces;
 mod stack;
 #[cfg(test)]
@@ -28,7 +31,10 @@ pub use bindings::{Bindings, PeText};
 pub use expansions::{literal, literal_in, plain_body, plain_body_in};
 pub use faults::PeFault;
 pub use ignored::ignored_end;
+pub use laws::{again_law, given_law, resuming_law};
 pub use openings::{Opened, opening};
+pub use pausing::{PausedExpansion, Place, Progress};
+pub use pieces::Manner;
 
 /// How many characters were included in one set or article: at most 67,108,864.
 #[derive(Clone, Copy, Debug, PartialEq, Eq)]

@@ -44,7 +44,7 @@ pub fn opening(
             if chain.len() >= MOST_OPEN {
                 return Err(PeFault::EntityTooDeep(name.copy(alloc)?));
             }
-            match load(alloc, name, entity, spent) {
+            match load(alloc, number, name, entity, spent) {
                 Err(fault) => Err(fault),
                 Ok(entered) => Ok(Opened {
                     number,

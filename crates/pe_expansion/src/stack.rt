@@ -5,18 +5,19 @@ ghost use Rattle.std.specs.List.{list_any, prefix_len};
 ghost use Rattle.std.specs.Option.{option_copied};
 ghost use Rattle.dtd_scanner.specs.References.{named};
 ghost use Rattle.jats_chars.specs.Names.{is_name};
-ghost use Rattle.pe_expansion.specs.Bound.{Bound, text_in};
+ghost use Rattle.pe_expansion.specs.Bound.{Bound, loaded_at, text_in};
 ghost use Rattle.pe_expansion.specs.Opening as spec;
 ghost use Rattle.pe_expansion.specs.Expansion as expansion;
 ghost use Rattle.pe_expansion.specs.Pieces as pieces;
 ghost use Rattle.pe_expansion.specs.Frames.{open_names, Closes, GoesOn, Stepped};
+ghost use Rattle.pe_expansion.specs.Pausing.{Numbers, SameTexts, Stays, SteppedBy, WantsNone};
 ghost use Rattle.pe_expansion.specs.Nesting.{Judges};
-ghost use Rattle.pe_expansion.specs.Outcomes.{Fails, Gives, Expands};
+ghost use Rattle.pe_expansion.specs.Outcomes.{Fails, Gives};
 ghost use Rattle.pe_expansion.specs.declared.pieces.Kind.TheVariants.{Char, Kept, Included};
 ghost use Rattle.pe_expansion.specs.declared.pieces.Manner.TheVariants.{Body};
 
 use crate::pieces::{Kind, Manner, Piece, first_piece, plain_len};
-use crate::{Bindings, Budget, PeFault, PeText};
+use crate::{Bindings, PeFault, PeText};
 use jats_chars::{Name, NameList, NoMemory, Text};
 use std::alloc::Global;
 
@@ -27,9 +28,10 @@ pub(crate) const MOST_OPEN: usize = 32;
 const MOST_INCLUDED: u64 = 67_108_864;
 
 /// A text that waits, from a place on, until the text of a name ends, which stands in what is written from `start` on;
-/// and whether the text that waits breaks nesting so far.
+/// the number of that name; and whether the text that waits breaks nesting so far.
 #[derive(Debug, Drop)]
 pub struct Frame<'a> {
+    pub number: usize,
     pub name: &'a Name,
     pub text: &'a [char],
     pub at: usize,
@@ -49,9 +51,10 @@ pub struct Work<'a> {
     pub broken: bool,
 }
 
-/// An entity that may open: its name as it is bound, its text, and the count of included characters with it.
+/// An entity that may open: its number, its name as it is bound, its text, and the count of included characters with it.
 #[derive(Debug, Drop)]
 pub(crate) struct Entered<'a> {
+    pub number: usize,
     pub name: &'a Name,
     pub text: &'a Text,
     pub spent: u64,
@@ -86,7 +89,7 @@ fn is_open(chain: &NameList, frames: &[Frame], name: &Name) -> bool
     is_in_chain(chain, name) || is_in_frames(frames, name)
 }
 
-fn text_of(entity: &PeText) -> Option<&Text>
+pub(crate) fn text_of(entity: &PeText) -> Option<&Text>
     ensures { option_copied result ≡ text_in entity.now }
 {
     match entity {
@@ -98,11 +101,14 @@ fn text_of(entity: &PeText) -> Option<&Text>
 /// The text of an entity that may open.
 pub(crate) fn load<'a>(
     alloc: Global,
+    number: usize,
     name: &'a Name,
     entity: &'a PeText,
     spent: u64,
 ) -> Result<Entered<'a>, PeFault>
     ensures name { IfOk result (λ e. e.name.now ≡ name.now) }
+    ensures number { IfOk result (λ e. e.number ≡ number) }
+    ensures there { IfOk result (λ e. text_in entity.now ≡ Some e.text.now) }
     ensures within { IfOk result (λ e. (e.spent ≡ spent + length e.text.now) × (e.spent ≤ 67108864)) }
     ensures text { Gives (λ e. (e.text.now, e.spent)) result (spec.loaded name.now spent (text_in entity.now)) }
 {
@@ -114,6 +120,7 @@ pub(crate) fn load<'a>(
                 Err(PeFault::ExpansionOver(name.copy(alloc)?))
             } else {
                 Ok(Entered {
+                    number,
                     name,
                     text,
                     spent: spent + len,
@@ -124,7 +131,7 @@ pub(crate) fn load<'a>(
 }
 
 /// The text of a reference, and the count of included characters with it.
-#[tactic(auto, unfolding(crate::specs::Opening::opening), using(crate::proofs::OpenNames::open_names_length))]
+#[tactic(auto, unfolding(crate::specs::Opening::opening), using(crate::proofs::OpenNames::open_names_length, crate::proofs::Numbering::entry_loaded))]
 fn enter<'a>(
     alloc: Global,
     bound: &'a Bindings,
@@ -135,19 +142,20 @@ fn enter<'a>(
 ) -> Result<Entered<'a>, PeFault>
     requires { IsTrue (is_name name.now) }
     ensures name { IfOk result (λ e. e.name.now ≡ name.now) }
+    ensures entry { IfOk result (λ e. loaded_at bound.now e.number ≡ Some (e.name.now, e.text.now)) }
     ensures within { IfOk result (λ e. (e.spent ≡ spent + length e.text.now) × (e.spent ≤ 67108864) × (length chain.now + length frames.now.items < 32)) }
     ensures text { Gives (λ e. (e.text.now, e.spent)) result (spec.opening bound.now (open_names chain.now frames.now.items) spent name.now) }
 {
-    match bound.found(name) {
+    match bound.numbered(name) {
         None => Err(PeFault::UndeclaredPe(name_of(alloc, name)?)),
-        Some((name, entity)) => {
+        Some((number, name, entity)) => {
             if is_open(chain, frames.as_slice(), name) {
                 return Err(PeFault::RecursivePe(name.copy(alloc)?));
             }
             if frames.len() >= MOST_OPEN || chain.len() >= MOST_OPEN - frames.len() {
                 return Err(PeFault::EntityTooDeep(name.copy(alloc)?));
             }
-            load(alloc, name, entity, spent)
+            load(alloc, number, name, entity, spent)
         }
     }
 }
@@ -197,7 +205,8 @@ fn close(
     written: &mut Text,
 ) -> Result<(), PeFault>
     requires { manner ≡ Body → expansion.nests None (drop start written.old) ≡ not broken }
-    ensures { (spent : ℕ) → Closes manner name.now start written.old written.new spent result }
+    ensures closes { (spent : ℕ) → Closes manner name.now start written.old written.new spent result }
+    ensures wants { WantsNone result }
 {
     match manner {
         Manner::Literal => Ok(()),
@@ -242,11 +251,13 @@ fn name_at(text: &[char], at: usize, len: usize) -> &[char]
 
 /// Goes on with the last text that waits, and answers whether there was one.
 #[tactic(auto, unfolding(crate::specs::Frames::left_of, crate::specs::Frames::size_of))]
-fn go_on(alloc: Global, manner: Manner, work: &mut Work) -> Result<bool, PeFault>
+pub(crate) fn go_on(alloc: Global, manner: Manner, work: &mut Work) -> Result<bool, PeFault>
     requires ends { length work.old.text.now ≤ work.old.at }
     requires judges { Judges manner work.old }
     ensures goes_on { (bound : Bound) (chain : List (List ℕ)) → GoesOn manner bound chain work.old work.new result }
     ensures judges { OnOk result (Judges manner work.new) }
+    ensures numbers { OnOk result ((bound : Bound) → Numbers bound work.old work.new) }
+    ensures wants { WantsNone result }
 {
     match work.frames.pop() {
         None => Ok(false),
@@ -279,6 +290,8 @@ fn put(manner: Manner, work: &mut Work, c: char, len: usize) -> Result<(), PeFau
     requires judges { Judges manner work.old }
     ensures steps { (bound : Bound) (chain : List (List ℕ)) → Stepped manner bound chain work.old work.new result }
     ensures judges { OnOk result (Judges manner work.new) }
+    ensures texts { OnOk result (SameTexts work.old work.new) }
+    ensures wants { WantsNone result }
 {
     work.written.push(c)?;
     work.at += len;
@@ -293,6 +306,8 @@ fn keep(manner: Manner, work: &mut Work, len: usize) -> Result<(), PeFault>
     requires judges { Judges manner work.old }
     ensures steps { (bound : Bound) (chain : List (List ℕ)) → Stepped manner bound chain work.old work.new result }
     ensures judges { OnOk result (Judges manner work.new) }
+    ensures texts { OnOk result (SameTexts work.old work.new) }
+    ensures wants { WantsNone result }
 {
     let text = work.text;
     let at = work.at;
@@ -309,6 +324,8 @@ fn copy(manner: Manner, work: &mut Work, len: usize) -> Result<(), PeFault>
     requires judges { Judges manner work.old }
     ensures steps { (bound : Bound) (chain : List (List ℕ)) → Stepped manner bound chain work.old work.new result }
     ensures judges { OnOk result (Judges manner work.new) }
+    ensures texts { OnOk result (SameTexts work.old work.new) }
+    ensures wants { WantsNone result }
 {
     let text = work.text;
     let at = work.at;
@@ -330,8 +347,10 @@ fn open_text<'a>(
     requires piece { pieces.first_piece manner (drop work.old.at work.old.text.now) ≡ Some (record { kind = Included; len = len }) }
     requires name { IsTrue (is_name (named len (drop work.old.at work.old.text.now))) }
     requires judges { Judges manner work.old }
-    ensures steps { Stepped manner bound.now chain.now work.old work.new result }
+    ensures steps { SteppedBy manner bound.now chain.now work.old work.new result }
     ensures judges { OnOk result (Judges manner work.new) }
+    ensures numbers { OnOk result (Numbers bound.now work.old work.new) }
+    ensures stays { Stays work.old work.new result }
 {
     let text = work.text;
     let at = work.at;
@@ -347,6 +366,7 @@ fn open_text<'a>(
         Ok(entered) => {
             pad(manner, &mut work.written)?;
             work.frames.push(Frame {
+                number: entered.number,
                 name: entered.name,
                 text,
                 at: at + len,
@@ -363,7 +383,7 @@ fn open_text<'a>(
 }
 
 /// The characters that stand for themselves at the place, or else one piece.
-fn step<'a>(
+pub(crate) fn step<'a>(
     alloc: Global,
     manner: Manner,
     bound: &'a Bindings,
@@ -372,8 +392,10 @@ fn step<'a>(
 ) -> Result<(), PeFault>
     requires within { work.old.at < length work.old.text.now }
     requires judges { Judges manner work.old }
-    ensures steps { Stepped manner bound.now chain.now work.old work.new result }
+    ensures steps { SteppedBy manner bound.now chain.now work.old work.new result }
     ensures judges { OnOk result (Judges manner work.new) }
+    ensures numbers { OnOk result (Numbers bound.now work.old work.new) }
+    ensures stays { Stays work.old work.new result }
 {
     let plain = plain_from(manner, work.text, work.at);
     if plain > 0 {
@@ -387,36 +409,4 @@ fn step<'a>(
         Kind::Kept => keep(manner, work, piece.len),
         Kind::Included => open_text(alloc, manner, bound, chain, work, piece.len),
     }
-}
-
-/// The expansion of a text, where the names of the chain are open.
-pub(crate) fn expanded(
-    alloc: Global,
-    manner: Manner,
-    bound: &Bindings,
-    chain: &NameList,
-    text: &[char],
-    budget: &mut Budget,
-) -> Result<Text, PeFault>
-    ensures gives { Expands (expansion.expansion_of manner bound.now chain.now budget.old.spent text.now) budget.old.spent budget.new.spent result }
-    ensures rises { budget.old.spent ≤ budget.new.spent }
-{
-    let mut work = Work {
-        written: Text::new(alloc),
-        spent: budget.spent,
-        frames: Vec::new(alloc),
-        text,
-        at: 0,
-        broken: false,
-    };
-    let mut more = true;
-    while more {
-        if work.at < work.text.len() {
-            step(alloc, manner, bound, chain, &mut work)?;
-        } else {
-            more = go_on(alloc, manner, &mut work)?;
-        }
-    }
-    budget.spent = work.spent;
-    Ok(work.written)
 }
