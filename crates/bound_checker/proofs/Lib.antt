@@ -1,0 +1,12 @@
+pub mod Running
+pub mod Suiting
+pub mod Oddly
+pub mod Sound
+pub mod Stepping
+pub mod Tests
+pub mod Firsts
+pub mod Placing
+pub mod Rows
+pub mod Halves
+pub mod Certificates
+pub mod Certified

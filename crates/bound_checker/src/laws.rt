@@ -1,0 +1,29 @@
+//! Laws of the definitions.
+
+ghost use Rattle.bound_checker.specs.Beside.{OddTells};
+ghost use Rattle.bound_checker.specs.Certificates.{PrintedIsFound, PrintedReadsBack, ReadFits};
+ghost use Rattle.bound_checker.specs.Laws.{FeasibleBounds};
+ghost use Rattle.bound_checker.specs.Tests.{NoneIsBroken};
+
+/// Where an element is not odd, what suits the first suits the second; where it is, something is right in the first and
+/// wrong in the second.
+pub fn odd_law()
+    ensures { OddTells }
+{}
+
+/// Feasible tables bound every document and every separating document; where v is none, no document separates.
+pub fn sound_law()
+    ensures { FeasibleBounds }
+{}
+
+/// No inequality fails exactly where the tables are feasible.
+pub fn tests_law()
+    ensures { NoneIsBroken }
+{}
+
+/// What is printed as a certificate reads back, also between other lines, and what is read fits.
+pub fn certificate_law()
+    ensures printed { PrintedReadsBack }
+    ensures found { PrintedIsFound }
+    ensures read { ReadFits }
+{}

@@ -1,0 +1,17 @@
+pub mod Sums
+pub mod Building
+pub mod Closing
+pub mod Exact
+pub mod Unique
+pub mod Lowering
+pub mod Comparing
+pub mod NumberedTables
+pub mod Verdicts
+pub mod Useful
+pub mod Report
+pub mod Choosing
+pub mod Required
+pub mod Chosen
+pub mod Built
+pub mod Depth
+pub mod Existing

@@ -1,0 +1,10 @@
+pub mod Families
+pub mod Forests
+pub mod Lowering
+pub mod Comparing
+pub mod Numbered
+pub mod Verdicts
+pub mod Useful
+pub mod Report
+pub mod Chosen
+pub mod Laws

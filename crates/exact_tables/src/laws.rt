@@ -1,0 +1,63 @@
+//! Laws of the definitions.
+
+ghost use Rattle.exact_tables.specs.Chosen.{ChosenExists, ChosenIsBuilt, LeastExists, LeastIsBuilt, OneChosen, OneLeast};
+ghost use Rattle.exact_tables.specs.Comparing.{SolvedIsExact};
+ghost use Rattle.exact_tables.specs.Laws.{AgreeingIsExact, AttainedIsExact, ExactIsFeasible, OneExact, ReachedIsExact};
+ghost use Rattle.exact_tables.specs.Lowering.{EachGives};
+ghost use Rattle.exact_tables.specs.Numbered.{NumberedIsExact};
+ghost use Rattle.exact_tables.specs.Report.{SubsetByBreaks};
+ghost use Rattle.exact_tables.specs.Useful.{UsefulByChains};
+ghost use Rattle.exact_tables.specs.Verdicts.{ContentTold, DocumentsTold, VerdictTold};
+
+/// Two sets have one table of exact costs. It is feasible, and costs that are feasible and attained are exact.
+pub fn exact_law()
+    ensures one { OneExact }
+    ensures feasible { ExactIsFeasible }
+    ensures reached { ReachedIsExact }
+    ensures attained { AttainedIsExact }
+    ensures agreeing { AgreeingIsExact }
+{}
+
+/// Every document of the first is one of the second exactly where no useful element breaks, and useful are the elements
+/// that chains of live children reach.
+pub fn report_law()
+    ensures subset { SubsetByBreaks }
+    ensures useful { UsefulByChains }
+{}
+
+/// A cost that a kind of inequality gives from costs of documents is one of documents, so that a solver that lowers by
+/// the kinds keeps its costs attained.
+pub fn lowering_law()
+    ensures { EachGives }
+{}
+
+/// The solved graph of a comparison gives the exact tables, and so does a solved graph of numbers that stands for it.
+pub fn comparing_law()
+    ensures solved { SolvedIsExact }
+    ensures numbered { NumberedIsExact }
+{}
+
+/// What exact costs say: whether there are documents, which verdict holds, and where a content breaks.
+pub fn verdict_law()
+    ensures documents { DocumentsTold }
+    ensures verdict { VerdictTold }
+    ensures content { ContentTold }
+{}
+
+/// An element has one least tree and one chosen separating tree.
+pub fn chosen_law()
+    ensures least { OneLeast }
+    ensures chosen { OneChosen }
+{}
+
+/// A least tree is valid, as large as m says, and can be written.
+pub fn least_law()
+    ensures built { LeastIsBuilt }
+    ensures exists { LeastExists }
+{}
+
+/// A chosen tree separates, is as large as v says, and can be written.
+pub fn separating_law()
+    ensures built { ChosenIsBuilt }
+    ensures exists { ChosenExists }
+{}
