@@ -1,0 +1,10 @@
+pub mod Closing
+pub mod Ending
+pub mod Filling
+pub mod Listing
+pub mod Members
+pub mod Noting
+pub mod Numbers
+pub mod Turning
+pub mod Unique
+pub mod Visit
