@@ -10,31 +10,22 @@ use Rattle.model_inclusion.specs.declared.fault.PairFault.{PairFault}
 use Rattle.model_inclusion.specs.declared.fault.PairFault.TheVariants as fault
 use Rattle.model_inclusion.specs.Listed.{IsListed, ArePairs, ListsPairs}
 use Rattle.model_inclusion.specs.Reaching.{next, Reaches, AreWithin, pairs_from}
-use Rattle.model_inclusion.specs.Rows.{IsRow}
-use Rattle.model_inclusion.proofs.Listing.{AreRows, within, are_pairs}
+use Rattle.model_inclusion.specs.Rows.{AreRows}
+use Rattle.model_inclusion.proofs.Listing.{within, are_pairs}
 
-module _ (keys : List Chars) (a b : Content) (firsts seconds fs ss : List (List (ℕ × ℕ))) (names : ℕ)
-    (la : length firsts ≡ states a) (ra : (i : ℕ) → i < states a → IsRow keys a i (get_or firsts i []))
-    (lb : length seconds ≡ states b) (rb : (i : ℕ) → i < states b → IsRow keys b i (get_or seconds i []))
-    (ef : fs ≡ firsts) (es : ss ≡ seconds) (en : names ≡ length keys) where
-  rows_a : AreRows keys a fs
-  rows_a = subst (AreRows keys a) (sym ef) (record { count = la; are = ra })
+pub inside_by : (keys : List Chars) (a b : Content) (fs ss : List (List (ℕ × ℕ))) (names : ℕ) → AreRows keys a fs → AreRows keys b ss → names ≡ length keys → IsDeterministic b
+    → AreWithin fs ss names
+inside_by keys a b fs ss names ra rb en db = subst (AreWithin fs ss) (sym en) (within keys a b fs ss ra rb db)
 
-  rows_b : AreRows keys b ss
-  rows_b = subst (AreRows keys b) (sym es) (record { count = lb; are = rb })
-
-  module _ (db : IsDeterministic b) where
-    pub inside_by : AreWithin fs ss names
-    inside_by = subst (AreWithin fs ss) (sym en) (within keys a b fs ss rows_a rows_b db)
-
-    pub collected : (width : ℕ) → width ≡ states b → (seen flags : List Bool) → Reaches (next fs ss names) (length fs * length ss) seen → flags ≡ seen
-        → (r : Result (List (ℕ × ℕ)) NoMemory) → IfOk r (λ pairs. pairs ≡ pairs_from 0 width flags) → IfOk r (ArePairs keys a b)
-    collected width ew seen flags h eq (Err f) e = tt
-    collected width ew seen flags h eq (Ok pairs) e =
-        let wide : width ≡ length ss = ew ∙ sym lb ∙ ap length (sym es) in
-        let k : Reaches (next fs ss (length keys)) (length fs * length ss) seen = subst (λ (n : ℕ). Reaches (next fs ss n) (length fs * length ss) seen) en h in
-        let same : pairs ≡ pairs_from 0 (length ss) seen = e ∙ ap (λ z. pairs_from 0 z flags) wide ∙ ap (pairs_from 0 (length ss)) eq in
-        subst (ArePairs keys a b) (sym same) (are_pairs keys a b fs ss rows_a rows_b db seen k)
+pub collected : (keys : List Chars) (a b : Content) (fs ss : List (List (ℕ × ℕ))) (names : ℕ) → AreRows keys a fs → AreRows keys b ss → names ≡ length keys → IsDeterministic b
+    → (width : ℕ) → width ≡ states b → (seen flags : List Bool) → Reaches (next fs ss names) (length fs * length ss) seen → flags ≡ seen
+    → (r : Result (List (ℕ × ℕ)) NoMemory) → IfOk r (λ pairs. pairs ≡ pairs_from 0 width flags) → IfOk r (ArePairs keys a b)
+collected keys a b fs ss names ra rb en db width ew seen flags h eq (Err f) e = tt
+collected keys a b fs ss names ra rb en db width ew seen flags h eq (Ok pairs) e =
+    let wide : width ≡ length ss = ew ∙ sym rb.count in
+    let k : Reaches (next fs ss (length keys)) (length fs * length ss) seen = subst (λ (n : ℕ). Reaches (next fs ss n) (length fs * length ss) seen) en h in
+    let same : pairs ≡ pairs_from 0 (length ss) seen = e ∙ ap (λ z. pairs_from 0 z flags) wide ∙ ap (pairs_from 0 (length ss)) eq in
+    subst (ArePairs keys a b) (sym same) (are_pairs keys a b fs ss ra rb db seen k)
 
 -- ---- names that are live alike
 

@@ -5,6 +5,8 @@ pub mod Listing
 pub mod Members
 pub mod Noting
 pub mod Numbers
+pub mod Separating
+pub mod Telling
 pub mod Turning
 pub mod Unique
 pub mod Visit

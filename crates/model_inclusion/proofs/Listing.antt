@@ -13,7 +13,7 @@ use Rattle.position_automata.proofs.Running.{follows_to, start_within}
 use Rattle.model_inclusion.specs.Listed.{IsListed, Precedes, IsAscending, ArePairs}
 use Rattle.model_inclusion.specs.Laws.{Reached, Starts, Steps}
 use Rattle.model_inclusion.specs.Reaching.{Member, noted, common, common_step, next, Reach, Here, There, is_seen, Reaches, StaysWithin, IsWithin, AreWithin, pairs_from}
-use Rattle.model_inclusion.specs.Rows.{number_of, IsRow}
+use Rattle.model_inclusion.specs.Rows.{number_of, IsRow, AreRows}
 use Rattle.model_inclusion.proofs.Closing.{listed_by_closure}
 use Rattle.model_inclusion.proofs.Members.{to_member, contains_of, all_member, filtered_to, filtered_from}
 use Rattle.model_inclusion.proofs.Noting.{noted_to, noted_from, blank}
@@ -77,10 +77,6 @@ module _ (firsts seconds : List (List (ℕ × ℕ))) (names : ℕ) where
       subst (λ (z : ℕ). z < length firsts * w) (sym t.5) k
 
 -- ---- pairs that are reached, as numbers and as pairs
-
-pub record AreRows (keys : List Chars) (a : Content) (rows : List (List (ℕ × ℕ))) : Type 0 where
-  pub count : length rows ≡ states a
-  pub are : (i : ℕ) → i < states a → IsRow keys a i (get_or rows i [])
 
 pub rows_within : (keys : List Chars) (a : Content) (rows : List (List (ℕ × ℕ))) → AreRows keys a rows → (i : ℕ) → i < length rows → IsWithin (length keys) (length rows) (get_or rows i [])
 rows_within keys a rows r i l n j c =

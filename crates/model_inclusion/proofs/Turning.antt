@@ -13,7 +13,7 @@ use Rattle.model_inclusion.proofs.Listing.{pair_below, stays_within}
 use Rattle.model_inclusion.proofs.Members.{to_member, filtered_from}
 use Rattle.model_inclusion.proofs.Visit as go
 
-row_is : (rows : List (List (ℕ × ℕ))) (k : ℕ) (r s : List (ℕ × ℕ)) → k < length rows → r ≡ get_or rows k r → s ≡ r → s ≡ get_or rows k []
+pub row_is : (rows : List (List (ℕ × ℕ))) (k : ℕ) (r s : List (ℕ × ℕ)) → k < length rows → r ≡ get_or rows k r → s ≡ r → s ≡ get_or rows k []
 row_is rows k r s l e q = q ∙ e ∙ get_or_default rows k r [] l
 
 module _ (firsts seconds : List (List (ℕ × ℕ))) (names : ℕ) (first : 0 < length firsts) (second : 0 < length seconds) (h : AreWithin firsts seconds names) where

@@ -1,3 +1,4 @@
+pub mod Included
 pub mod Laws
 pub mod Listed
 pub mod Reaching

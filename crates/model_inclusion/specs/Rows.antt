@@ -1,9 +1,9 @@
 -- Rows of steps on numbered names.
-use Rattle.std.specs.Prelude.{◌≡◌, ℕ, List, [], ◌∷◌, map, Option, Some, None, option_map, bytes_eq, position, Contains, ◌↔◌}
+use Rattle.std.specs.Prelude.{◌≡◌, ◌<◌, length, slice_index_or, ℕ, List, [], ◌∷◌, map, Option, Some, None, option_map, bytes_eq, position, Contains, ◌↔◌}
 use Rattle.std.specs.List.{filter_map}
 use Rattle.content_models.specs.declared.content.Content.{Content}
 use Rattle.content_models.specs.Model.{Chars}
-use Rattle.position_automata.specs.Automata.{FollowsOn}
+use Rattle.position_automata.specs.Automata.{states, FollowsOn}
 use Rattle.position_automata.specs.Stepping.{step_on}
 
 -- the number of a name: its place among the keys, where it is one of them
@@ -39,3 +39,8 @@ StepsOn keys content i n j = (name : Chars) × (number_of keys name ≡ Some n) 
 -- the row of a state: what follows on the names that are keys
 abbrev pub IsRow : List Chars → Content → ℕ → List (ℕ × ℕ) → Type 0
 IsRow keys content i row = (n j : ℕ) → Contains row (n, j) ↔ StepsOn keys content i n j
+
+-- the rows of all states
+pub record AreRows (keys : List Chars) (a : Content) (rows : List (List (ℕ × ℕ))) : Type 0 where
+  pub count : length rows ≡ states a
+  pub are : (i : ℕ) → i < states a → IsRow keys a i (slice_index_or rows i [])

@@ -13,6 +13,7 @@
 mod fault;
 mod laws;
 mod live;
+mod parting;
 mod reach;
 mod rows;
 mod set;
@@ -21,7 +22,7 @@ mod side;
 mod tests;
 
 pub use fault::PairFault;
-pub use laws::pairs_law;
+pub use laws::{inclusion_law, pairs_law};
 pub use live::LiveNames;
 pub use set::PairSet;
-pub use side::{pairs, pairs_among};
+pub use side::{Compared, compare, pairs, pairs_among};

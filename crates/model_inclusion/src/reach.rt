@@ -16,7 +16,7 @@ fn put(steps: &mut Vec<Option<u32>>, at: usize, step: Option<u32>)
 }
 
 /// Notes each step of a row at the number of its name.
-fn note(row: &[Step], steps: &mut Vec<Option<u32>>)
+pub fn note(row: &[Step], steps: &mut Vec<Option<u32>>)
     ensures { steps.new.items ≡ noted row.now steps.old.items }
 {
     for (number, next) in row {
@@ -24,7 +24,8 @@ fn note(row: &[Step], steps: &mut Vec<Option<u32>>)
     }
 }
 
-fn forget(row: &[Step], steps: &mut Vec<Option<u32>>)
+/// Takes the steps of a row away again.
+pub fn forget(row: &[Step], steps: &mut Vec<Option<u32>>)
     ensures { steps.new.items ≡ forgotten row.now steps.old.items }
 {
     for (number, _next) in row {
@@ -32,7 +33,8 @@ fn forget(row: &[Step], steps: &mut Vec<Option<u32>>)
     }
 }
 
-fn noted_at(steps: &[Option<u32>], at: usize) -> Option<u32>
+/// The step that is noted at a number.
+pub fn noted_at(steps: &[Option<u32>], at: usize) -> Option<u32>
     ensures { result ≡ slice_index_or steps.now at None }
 {
     match steps.get(at) {

@@ -1,9 +1,9 @@
 //! The steps of an automaton as rows of numbered names.
 
-ghost use Rattle.std.specs.Prelude.{◌≡◌, ◌≤◌, ◌<◌, ◌^◌, ℕ, ◌++◌, ◌∷◌, [], length, slice_index_or, IfOk, OnOk};
+ghost use Rattle.std.specs.Prelude.{◌≡◌, ◌≤◌, ◌<◌, ◌^◌, ◌++◌, ◌∷◌, [], length, IfOk, OnOk};
 ghost use Rattle.position_automata.specs.Automata.{states, IsFollows};
 ghost use Rattle.position_automata.specs.Stepping.{steps_of};
-ghost use Rattle.model_inclusion.specs.Rows.{numbered, asked, IsRow};
+ghost use Rattle.model_inclusion.specs.Rows.{numbered, asked, IsRow, AreRows};
 
 use crate::LiveNames;
 use jats_chars::{ListOf, Name, NoMemory};
@@ -112,8 +112,7 @@ pub fn rows(
     automaton: &Automaton,
     live: &LiveNames,
 ) -> Result<ListOf<ListOf<Step>>, NoMemory>
-    ensures len { IfOk result (λ rows. length rows ≡ states automaton.now) }
-    ensures rows { IfOk result (λ rows. (i : ℕ) → i < states automaton.now → IsRow live.now automaton.now i (slice_index_or rows i [])) }
+    ensures rows { IfOk result (AreRows live.now automaton.now) }
     ensures small { IfOk result (λ rows. length rows < 2 ^ 32) }
 {
     let most = automaton.follows();

@@ -45,6 +45,13 @@ impl PairSet {
         self.pairs.len()
     }
 
+    /// The pairs, lent.
+    pub fn as_slice(&self) -> &[(u32, u32)]
+        ensures { result.now ≡ self.now }
+    {
+        self.pairs.as_slice()
+    }
+
     /// The pair at a place counted from 0, or None exactly where the place is the length or more.
     pub fn get(&self, k: usize) -> Option<(u32, u32)>
         ensures { result ≡ slice_get self.now k }

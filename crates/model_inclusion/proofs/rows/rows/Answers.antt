@@ -9,4 +9,9 @@ loop-state-preserved c =
     record { count = f.count; are = f.are }
 
 pub returns-clause-rows : goal.returns-clause-rows
-returns-clause-rows c i h = c.loop-state.invariant.are i (omega (arith, h, c.loop-state-test.false, sym c.states-state-end.ensures.states))
+returns-clause-rows c =
+    let e = c.states-state-end.ensures.states in
+    record {
+      count = omega (arith, c.loop-state.invariant.count, c.loop-state.auto.state-end, c.loop-state-test.false, e);
+      are = λ i h. c.loop-state.invariant.are i (omega (arith, h, c.loop-state-test.false, e));
+    }
