@@ -1,0 +1,12 @@
+pub mod Closing
+pub mod Ending
+pub mod Filling
+pub mod Listing
+pub mod Members
+pub mod Noting
+pub mod Numbers
+pub mod Separating
+pub mod Telling
+pub mod Turning
+pub mod Unique
+pub mod Visit

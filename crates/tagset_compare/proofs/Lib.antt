@@ -1,0 +1,3 @@
+pub mod Oddly
+pub mod Reaching
+pub mod Subsets

@@ -1,0 +1,9 @@
+use Rattle.tagset_compare.proofs.Reaching.{useful_by_chains}
+use Rattle.tagset_compare.proofs.Subsets.{subset_by_breaks}
+use Rattle.tagset_compare.proofs.laws.subset_law.Goals as goal
+
+pub returns-clause-subset : goal.returns-clause-subset
+returns-clause-subset c = subset_by_breaks
+
+pub returns-clause-useful : goal.returns-clause-useful
+returns-clause-useful c = useful_by_chains

@@ -1,0 +1,18 @@
+//! Laws of the definitions.
+
+ghost use Rattle.tagset_compare.specs.Beside.{OddTells};
+ghost use Rattle.tagset_compare.specs.Chains.{UsefulByChains};
+ghost use Rattle.tagset_compare.specs.Laws.{SubsetByBreaks};
+
+/// Where an element is not odd, items and attributes that suit the first set suit the second; where it is odd, some that
+/// suit the first do not suit the second, whatever child elements stand among them.
+pub fn odd_law()
+    ensures { OddTells }
+{}
+
+/// Every document of the first set is one of the second exactly where no useful element breaks; and useful are the elements
+/// that chains of live children reach from a root that has a document.
+pub fn subset_law()
+    ensures subset { SubsetByBreaks }
+    ensures useful { UsefulByChains }
+{}
