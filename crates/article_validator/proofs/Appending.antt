@@ -31,3 +31,12 @@ on_ok (Err e) f p = tt
 
 pub parted : {Y : Type 0} (now mid xs ys : List Y) → now ≡ mid ++ xs → now ++ ys ≡ mid ++ (xs ++ ys)
 parted now mid xs ys e = ap (λ l. l ++ ys) e ∙ append_assoc mid xs ys
+
+-- and where each part is put as it is
+pub part_at : {Y Z : Type 0} (f : Z → List Y) (all : List Z) (i : ℕ) (now mid old : List Y) (one : List Y) → now ≡ mid ++ one → one ≡ option_map_or f (slice_get all i) [] → mid ++ flat_map f (drop i all) ≡ old
+    → now ++ flat_map f (drop (i + 1) all) ≡ old
+part_at f all i now mid old one put same kept =
+    let rest = flat_map f (drop (i + 1) all) in
+    ap (λ l. l ++ rest) put
+    ∙ (append_assoc mid one rest
+    ∙ (ap (λ xs. mid ++ (xs ++ rest)) same ∙ (ap (λ xs. mid ++ xs) (sym (each_next f all i (slice_get all i) refl)) ∙ kept)))

@@ -24,10 +24,10 @@ or_right : (a b : Bool) → IsTrue b → IsTrue (a || b)
 or_right true b t = refl
 or_right false b t = t
 
-same_name : (name : List ℕ) → bytes_eq name name ≡ true
+pub same_name : (name : List ℕ) → bytes_eq name name ≡ true
 same_name name = (bytes_eq-Decides name name).1 refl
 
-has_more : (xs ys : List Attribute) (name : List ℕ) → IsTrue (has_attribute xs name) → IsTrue (has_attribute (xs ++ ys) name)
+pub has_more : (xs ys : List Attribute) (name : List ℕ) → IsTrue (has_attribute xs name) → IsTrue (has_attribute (xs ++ ys) name)
 has_more [] ys name t = cc
 has_more (x ∷ xs) ys name t = elim (bytes_eq name x.0) as (λ b. IsTrue (b || has_attribute xs name) → IsTrue (b || has_attribute (xs ++ ys) name)) [ true ↦ λ s. refl | false ↦ λ s. has_more xs ys name s ] t
 

@@ -10,3 +10,5 @@ pub mod Linking
 pub mod Valid
 pub mod Unbroken
 pub mod Filled
+pub mod FillingSteps
+pub mod FilledValid

@@ -28,3 +28,7 @@ NoneBroken = (set : Declarations) (node : Node) → IsKept set → (first_broken
 -- filling again changes nothing
 abbrev pub FilledOnce : Type 0
 FilledOnce = (set : Declarations) (node : Node) → filled set (filled set node) ≡ filled set node
+
+-- a document that is valid from a root is so with its defaults
+abbrev pub FilledValid : Type 0
+FilledValid = (set : Declarations) (root : List ℕ) (node : Node) → IsKept set → IsValid set root node → IsValid set root (filled set node)

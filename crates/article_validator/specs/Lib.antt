@@ -1,6 +1,7 @@
 pub mod Deriving
 pub mod Faults
 pub mod Filling
+pub mod FillingSteps
 pub mod First
 pub mod Laws
 pub mod Links

@@ -1,6 +1,6 @@
 //! Laws of the definitions.
 
-ghost use Rattle.article_validator.specs.Laws.{DerivedByStates, ValidWithoutFaults, NoneBroken, FilledOnce};
+ghost use Rattle.article_validator.specs.Laws.{DerivedByStates, ValidWithoutFaults, NoneBroken, FilledOnce, FilledValid};
 
 /// Going through the states of a deterministic content tells what it derives.
 pub fn deriving_law()
@@ -18,7 +18,9 @@ pub fn first_law()
     ensures { NoneBroken }
 {}
 
-/// A document with its defaults has no further ones: filling again changes nothing.
+/// A document with its defaults has no further ones: filling again changes nothing. One that is valid from a root is so with
+/// its defaults.
 pub fn filling_law()
-    ensures { FilledOnce }
+    ensures once { FilledOnce }
+    ensures valid { FilledValid }
 {}

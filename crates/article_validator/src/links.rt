@@ -38,7 +38,7 @@ pub fn specified_link<'a>(atts: &'a AttList, att: &'a (Name, Text)) -> Option<Li
     }
 }
 
-fn value_of(preset: &Preset) -> Option<&Text>
+pub fn value_of(preset: &Preset) -> Option<&Text>
     ensures { option_copied result ≡ value_in preset.now }
 {
     match preset {
