@@ -10,3 +10,5 @@ pub mod Rows
 pub mod Halves
 pub mod Certificates
 pub mod Certified
+pub mod Lined
+pub mod Putting

@@ -6,3 +6,4 @@ pub mod Laws
 pub mod Tests
 pub mod Holding
 pub mod Certificates
+pub mod Lines

@@ -10,9 +10,11 @@
 mod check;
 mod held;
 mod laws;
+mod printing;
 mod tables;
 
 pub use check::{Broken, check_tables};
 pub use laws::{certificate_law, odd_law, sound_law, tests_law};
+pub use printing::print_cert;
 pub use tables::{PairRow, PairRows, Row, Rows, StateRow, StateRows, Tables};
 pub use tree_costs::{Cost, CostList, Least, LeastRow, LeastRows, sum};

@@ -1,10 +1,12 @@
 use Rattle.bound_checker.proofs.Certificates.{printed_back, printed_found}
 use Rattle.bound_checker.proofs.Certified.{read_fits}
+use Rattle.bound_checker.proofs.Lined.{text_back}
 use Rattle.bound_checker.proofs.laws.certificate_law.Goals as goal
 
 pub returns : goal.returns
 returns c = record {
   printed = printed_back;
+  text = text_back;
   found = printed_found;
   read = read_fits;
 }

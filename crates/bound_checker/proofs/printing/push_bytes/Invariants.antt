@@ -1,0 +1,5 @@
+use Rattle.std.proofs.Common.{◌≡◌, ◌++◌, take}
+use Rattle.bound_checker.proofs.printing.push_bytes.Given as goal
+
+abbrev pub invariant-loop-b : goal.invariant-loop-b
+invariant-loop-b l = l.out ≡ l.initial.out ++ take l.b-index l.bytes
