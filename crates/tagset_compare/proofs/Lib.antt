@@ -1,3 +1,5 @@
+pub mod Broken
+pub mod Judging
 pub mod Oddly
 pub mod Reaching
 pub mod Subsets

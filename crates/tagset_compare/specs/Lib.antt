@@ -1,3 +1,6 @@
 pub mod Beside
 pub mod Chains
+pub mod Judged
 pub mod Laws
+pub mod Live
+pub mod Reported
