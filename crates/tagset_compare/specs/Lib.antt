@@ -1,5 +1,6 @@
 pub mod Beside
 pub mod Chains
+pub mod Finite
 pub mod Judged
 pub mod Laws
 pub mod Live

@@ -2,6 +2,7 @@
 
 ghost use Rattle.tagset_compare.specs.Beside.{OddTells};
 ghost use Rattle.tagset_compare.specs.Chains.{UsefulByChains};
+ghost use Rattle.tagset_compare.specs.Finite.{DocumentsByCosts, EndsByCosts};
 ghost use Rattle.tagset_compare.specs.Laws.{SubsetByBreaks};
 ghost use Rattle.tagset_compare.specs.Reported.{NoneListed, OneBroken};
 
@@ -22,4 +23,11 @@ pub fn subset_law()
 pub fn report_law()
     ensures none { NoneListed }
     ensures one { OneBroken }
+{}
+
+/// Least costs tell which names have documents, and from which states such names lead to acceptance: those that have a
+/// number.
+pub fn live_law()
+    ensures documents { DocumentsByCosts }
+    ensures ends { EndsByCosts }
 {}

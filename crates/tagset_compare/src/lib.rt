@@ -9,9 +9,11 @@
 mod causes;
 mod fault;
 mod laws;
+mod live;
 mod outcome;
 
 pub use causes::{Judged, judge};
 pub use fault::ReportFault;
-pub use laws::{odd_law, report_law, subset_law};
+pub use laws::{live_law, odd_law, report_law, subset_law};
+pub use live::finite_flags;
 pub use outcome::{BrokenList, Report};
