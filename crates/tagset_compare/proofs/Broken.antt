@@ -1,11 +1,10 @@
 -- What is listed, and what it says.
-use Rattle.std.proofs.Common.{◌≡◌, List, [], ◌∷◌, Option, Some, None, inl, inr, ◌⊎◌, refl, sym, ap, ◌∙◌, subst}
+use Rattle.std.proofs.Common.{◌≡◌, List, [], ◌∷◌, Some, inl, inr, sym, ap, ◌∙◌, subst}
 use Rattle.std.specs.List.{AllByRecursion}
 use Rattle.content_models.specs.declared.content.Content.{Content}
 use Rattle.content_models.specs.Model.{Chars}
-use Rattle.decl_set.specs.Asked as set
 use Rattle.decl_set.specs.Declarations.{Declarations, Element, content_in, attributes_in}
-use Rattle.decl_set.specs.Validity.{HasDocument, IsUseful}
+use Rattle.decl_set.specs.Validity.{HasDocument}
 use Rattle.decl_set.specs.Breaks.{Breaks, IsKept}
 use Rattle.decl_set.specs.declared.breaks.Cause.{Cause}
 use Rattle.decl_set.specs.declared.breaks.BrokenDecl.{BrokenDecl}

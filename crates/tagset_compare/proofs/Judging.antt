@@ -1,7 +1,6 @@
 -- The first cause by which an element breaks.
-use Rattle.std.proofs.Common.{◌≡◌, ◌<◌, ◌≤◌, List, [], ◌∷◌, ℕ, length, Bool, true, false, ◌&&◌, Option, Some, None, Result, Ok, Err, MatchOption, inl, inr, ◌⊎◌, refl, sym, ap, ◌∙◌, subst, arith, true≢false}
-use Rattle.std.specs.Prelude.{option_map, ◌↔◌}
-use Rattle.std.specs.Bool.{Decides}
+use Rattle.std.proofs.Common.{◌≡◌, List, [], ◌∷◌, ℕ, length, true, false, Option, Some, None, Ok, Err, MatchOption, inl, inr, ◌⊎◌, refl, sym, ◌∙◌, subst, arith}
+use Rattle.std.specs.Prelude.{option_map}
 use Rattle.std.specs.List.{list_all, AllByRecursion}
 use Rattle.std.proofs.lemmas.Bool.{and_parts, and_from, both_ways}
 use Rattle.content_models.specs.declared.content.Content.{Content}
@@ -10,7 +9,7 @@ use Rattle.attlist_merge.specs.Lists.{Definitions}
 use Rattle.decl_set.specs.Declarations.{Declarations, content_in, attributes_in}
 use Rattle.decl_set.specs.Validity.{HasDocument}
 use Rattle.decl_set.specs.Oddness.{odd_by, odd_in}
-use Rattle.decl_set.specs.Breaks.{ContentBreaks, BothBreak, cause_of, BreaksBy, Breaks}
+use Rattle.decl_set.specs.Breaks.{ContentBreaks, BothBreak, cause_of, BreaksBy}
 use Rattle.decl_set.specs.declared.breaks.Cause.{Cause}
 use Rattle.decl_set.specs.declared.breaks.Cause.TheVariants as cause
 use Rattle.decl_set.specs.declared.breaks.Odd.{Odd}
@@ -20,8 +19,7 @@ use Rattle.model_inclusion.specs.declared.fault.PairFault.TheVariants as fault
 use Rattle.model_inclusion.specs.declared.side.Compared.{Compared}
 use Rattle.model_inclusion.specs.Listed as names
 use Rattle.model_inclusion.specs.Included.{Separates, Compares}
-use Rattle.tagset_compare.specs.declared.causes.Judged.{Judged}
-use Rattle.tagset_compare.specs.Judged.{IsCause, Judges}
+use Rattle.tagset_compare.specs.Judged.{Judges}
 use Rattle.tagset_compare.specs.Live.{AreLive, IsListed, AreListed}
 use Rattle.tagset_compare.specs.Reported.{CountsPairs}
 

@@ -1,5 +1,6 @@
 pub mod Broken
 pub mod Judging
+pub mod Lively
 pub mod Numbers
 pub mod Oddly
 pub mod Reaching

@@ -1,24 +1,21 @@
 -- What least costs that are numbers say.
-use Rattle.std.proofs.Common.{◌≡◌, List, [], ◌∷◌, ℕ, zero, suc, map, get_or, Bool, true, false, ◌&&◌, Option, Some, None, slice_get, min, inl, inr, refl, sym, ap, ◌∙◌, subst, true≢false, ◌+◌}
-use Rattle.std.specs.Prelude.{option_and_then, ◌↔◌}
+use Rattle.std.proofs.Common.{◌≡◌, List, [], ◌∷◌, ℕ, zero, suc, map, get_or, Bool, true, false, Some, slice_get, inl, inr, refl, sym, ap, ◌∙◌, subst, true≢false}
+use Rattle.std.specs.Prelude.{option_and_then}
 use Rattle.std.specs.Bool.{Decides}
-use Rattle.std.specs.List.{list_all, AllByRecursion}
+use Rattle.std.specs.List.{list_all}
 use Rattle.std.specs.Option.{option_map_or}
 use Rattle.std.proofs.lemmas.Bool.{and_parts, and_from}
 use Rattle.content_models.specs.declared.content.Content.{Content}
 use Rattle.content_models.specs.Model.{Chars, among}
 use Rattle.document_trees.specs.Trees.{size}
-use Rattle.position_automata.specs.Runs.{Runs}
 use Rattle.decl_set.specs.Declarations.{Declarations, content_in}
-use Rattle.decl_set.specs.Validity.{HasDocument}
 use Rattle.model_inclusion.specs.Included.{Ends}
 use Rattle.tree_costs.specs.declared.cost.Cost.{Cost}
 use Rattle.tree_costs.specs.declared.cost.Cost.TheVariants.{Fin, Inf}
 use Rattle.tree_costs.specs.declared.least.Least.{Least}
 use Rattle.tree_costs.specs.declared.least.LeastRow.{LeastRow}
-use Rattle.tree_costs.specs.Costs.{AtMost, cut, sum, total, IsLeast}
-use Rattle.tree_costs.specs.Families.{OfDocument, OfNames}
-use Rattle.tree_costs.specs.Leasts.{IsExact, m_of, p_of, row_of}
+use Rattle.tree_costs.specs.Costs.{AtMost, cut, sum, total}
+use Rattle.tree_costs.specs.Leasts.{IsExact, m_of, p_of}
 use Rattle.tagset_compare.specs.Finite.{is_finite, DocumentsByCosts, EndsByCosts}
 use Rattle.tagset_compare.specs.Live.{AreLive}
 

@@ -1,8 +1,8 @@
 -- What least costs that are numbers say: which names have documents, and from which states they lead to acceptance.
-use Rattle.std.specs.Prelude.{◌≡◌, ◌↔◌, Bool, true, false, List, map, Some, IsTrue}
+use Rattle.std.specs.Prelude.{◌≡◌, ◌↔◌, Bool, true, false, List, [], ◌∷◌, map, Option, Some, None, IsTrue, if◌then◌else◌}
 use Rattle.content_models.specs.declared.content.Content.{Content}
 use Rattle.content_models.specs.Model.{Chars}
-use Rattle.decl_set.specs.Declarations.{Declarations, content_in}
+use Rattle.decl_set.specs.Declarations.{Declarations, Element, content_in}
 use Rattle.decl_set.specs.Validity.{HasDocument}
 use Rattle.model_inclusion.specs.Included.{TellEnds}
 use Rattle.tree_costs.specs.declared.cost.Cost.{Cost}
@@ -26,3 +26,13 @@ abbrev pub EndsByCosts : Type 0
 EndsByCosts =
     (set : Declarations) (least : Least) (live : List Chars) (e : Chars) (a : Content) (row : LeastRow) → IsExact set least → AreLive set live
     → content_in set e ≡ Some a → row_of set least e ≡ Some row → TellEnds live a (map is_finite row.p)
+
+-- the names of the elements whose least size is a number
+abbrev pub live_of : List Element → List LeastRow → List Chars
+live_of [] rows = []
+live_of (e ∷ es) [] = []
+live_of (e ∷ es) (row ∷ rows) = if is_finite row.m then e.0 ∷ live_of es rows else live_of es rows
+
+abbrev pub as_list : Option Chars → List Chars
+as_list None = []
+as_list (Some name) = name ∷ []

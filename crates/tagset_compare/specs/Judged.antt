@@ -1,5 +1,5 @@
 -- What is found of one element.
-use Rattle.std.specs.Prelude.{◌≡◌, ◌<◌, ◌≤◌, ℕ, List, length, MatchOption, Option, Some, None, Result, Ok, Err}
+use Rattle.std.specs.Prelude.{◌<◌, ◌≤◌, ℕ, MatchOption, Option, Result, Ok, Err}
 use Rattle.content_models.specs.declared.content.Content.{Content}
 use Rattle.content_models.specs.Model.{Chars}
 use Rattle.decl_set.specs.Declarations.{Declarations, content_in}

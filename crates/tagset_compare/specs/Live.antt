@@ -1,5 +1,5 @@
 -- Names that have documents, and the pairs of states to which they lead.
-use Rattle.std.specs.Prelude.{◌≡◌, ◌↔◌, ℕ, List, Contains, IsTrue}
+use Rattle.std.specs.Prelude.{◌↔◌, ℕ, List, Contains, IsTrue}
 use Rattle.std.specs.List.{AllByRecursion}
 use Rattle.content_models.specs.declared.content.Content.{Content}
 use Rattle.content_models.specs.Model.{Chars, among}

@@ -15,5 +15,5 @@ mod outcome;
 pub use causes::{Judged, judge};
 pub use fault::ReportFault;
 pub use laws::{live_law, odd_law, report_law, subset_law};
-pub use live::finite_flags;
+pub use live::{finite_flags, live_names};
 pub use outcome::{BrokenList, Report};
