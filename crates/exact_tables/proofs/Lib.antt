@@ -7,8 +7,6 @@ pub mod Lowering
 pub mod Comparing
 pub mod NumberedTables
 pub mod Verdicts
-pub mod Useful
-pub mod Report
 pub mod Choosing
 pub mod Required
 pub mod Chosen

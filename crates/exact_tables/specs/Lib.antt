@@ -4,7 +4,5 @@ pub mod Lowering
 pub mod Comparing
 pub mod Numbered
 pub mod Verdicts
-pub mod Useful
-pub mod Report
 pub mod Chosen
 pub mod Laws

@@ -5,8 +5,6 @@ ghost use Rattle.exact_tables.specs.Comparing.{SolvedIsExact};
 ghost use Rattle.exact_tables.specs.Laws.{AgreeingIsExact, AttainedIsExact, ExactIsFeasible, OneExact, ReachedIsExact};
 ghost use Rattle.exact_tables.specs.Lowering.{EachGives};
 ghost use Rattle.exact_tables.specs.Numbered.{NumberedIsExact};
-ghost use Rattle.exact_tables.specs.Report.{SubsetByBreaks};
-ghost use Rattle.exact_tables.specs.Useful.{UsefulByChains};
 ghost use Rattle.exact_tables.specs.Verdicts.{ContentTold, DocumentsTold, VerdictTold};
 
 /// Two sets have one table of exact costs. It is feasible, and costs that are feasible and attained are exact.
@@ -16,13 +14,6 @@ pub fn exact_law()
     ensures reached { ReachedIsExact }
     ensures attained { AttainedIsExact }
     ensures agreeing { AgreeingIsExact }
-{}
-
-/// Every document of the first is one of the second exactly where no useful element breaks, and useful are the elements
-/// that chains of live children reach.
-pub fn report_law()
-    ensures subset { SubsetByBreaks }
-    ensures useful { UsefulByChains }
 {}
 
 /// A cost that a kind of inequality gives from costs of documents is one of documents, so that a solver that lowers by

@@ -13,6 +13,6 @@
 mod laws;
 
 pub use laws::{
-    chosen_law, comparing_law, exact_law, least_law, lowering_law, report_law, separating_law,
+    chosen_law, comparing_law, exact_law, least_law, lowering_law, separating_law,
     verdict_law,
 };

@@ -1,3 +1,7 @@
+pub mod Broken
+pub mod Judging
+pub mod Lively
+pub mod Numbers
 pub mod Oddly
 pub mod Reaching
 pub mod Subsets

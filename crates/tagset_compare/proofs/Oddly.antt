@@ -1,7 +1,7 @@
 -- Where an element is odd, something is right in the first and wrong in the second; else what suits goes over.
-use Rattle.std.proofs.Common.{◌≡◌, ◌∙◌, ℕ, Bool, true, false, cond, not, ◌&&◌, List, [], ◌∷◌, refl, sym, subst, Some, None, IsTrue, Option, true≢false}
+use Rattle.std.proofs.Common.{◌≡◌, Bool, true, false, cond, ◌&&◌, List, [], ◌∷◌, refl, sym, subst, Some, None, IsTrue, Option, true≢false}
 use Rattle.std.specs.Prelude.{option_map}
-use Rattle.std.specs.List.{list_all, AllByRecursion}
+use Rattle.std.specs.List.{AllByRecursion}
 use Rattle.std.proofs.lemmas.Bool.{both_ways, and_from}
 use Rattle.jats_chars.specs.Classes.{is_char, is_space}
 use Rattle.jats_chars.specs.Names.{is_name}

@@ -284,7 +284,7 @@ module _ (first second : Declarations) (kf : IsKept first) (ks : IsKept second) 
         ))
         refl i
 
-  has_document : (e root : Chars) → IsUseful first root e → HasDocument first e
+  pub has_document : (e root : Chars) → IsUseful first root e → HasDocument first e
   has_document e root u =
       let node = u.0 in
       let P : Bool → Type 0 = λ b. bytes_eq e node.name ≡ b → (b || stands_below e node.items) ≡ true → HasDocument first e in
@@ -293,7 +293,7 @@ module _ (first second : Declarations) (kf : IsKept first) (ks : IsKept second) 
       (λ t q i. below first e node.items u.1.1 u.2.1.1 i)
       refl u.3
 
-  none_breaks : (root : Chars) → IsSubset first second root → NoneBreaks first second root
+  pub none_breaks : (root : Chars) → IsSubset first second root → NoneBreaks first second root
   unfolding Parts
   none_breaks root sub e u k b =
       let s = breaking e k (has_document e root u) b in
@@ -347,7 +347,7 @@ module _ (first second : Declarations) (kf : IsKept first) (ks : IsKept second) 
     kept (comment run later) u w h n = kept later u w h n
     kept (pi target body later) u w h n = kept later u w h n
 
-  is_subset : (root : Chars) → NoneBreaks first second root → IsSubset first second root
+  pub is_subset : (root : Chars) → NoneBreaks first second root → IsSubset first second root
   is_subset root none node sep =
       let U : Chars → Type 0 = λ e. stands_in e node ≡ true in
       let useful : (e : Chars) → U e → (k : Cause) → Breaks first second e k → ⊥ = λ e i k b. none e (node, sep.0, sep.1, i) k b in

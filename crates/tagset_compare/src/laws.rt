@@ -2,7 +2,9 @@
 
 ghost use Rattle.tagset_compare.specs.Beside.{OddTells};
 ghost use Rattle.tagset_compare.specs.Chains.{UsefulByChains};
+ghost use Rattle.tagset_compare.specs.Finite.{DocumentsByCosts, EndsByCosts};
 ghost use Rattle.tagset_compare.specs.Laws.{SubsetByBreaks};
+ghost use Rattle.tagset_compare.specs.Reported.{NoneListed, OneBroken};
 
 /// Where an element is not odd, items and attributes that suit the first set suit the second; where it is odd, some that
 /// suit the first do not suit the second, whatever child elements stand among them.
@@ -15,4 +17,17 @@ pub fn odd_law()
 pub fn subset_law()
     ensures subset { SubsetByBreaks }
     ensures useful { UsefulByChains }
+{}
+
+/// What a report lists is one list, and it is empty exactly where every document of the first is one of the second.
+pub fn report_law()
+    ensures none { NoneListed }
+    ensures one { OneBroken }
+{}
+
+/// Least costs tell which names have documents, and from which states such names lead to acceptance: those that have a
+/// number.
+pub fn live_law()
+    ensures documents { DocumentsByCosts }
+    ensures ends { EndsByCosts }
 {}

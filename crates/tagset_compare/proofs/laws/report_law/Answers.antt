@@ -1,0 +1,8 @@
+use Rattle.tagset_compare.proofs.Broken.{none_is_listed, one_broken}
+use Rattle.tagset_compare.proofs.laws.report_law.Goals as goal
+
+pub returns-clause-none : goal.returns-clause-none
+returns-clause-none c = none_is_listed
+
+pub returns-clause-one : goal.returns-clause-one
+returns-clause-one c = one_broken
