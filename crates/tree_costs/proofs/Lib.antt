@@ -1,0 +1,10 @@
+pub mod Costs
+pub mod Beside
+pub mod Building
+pub mod Solved
+pub mod Numbered
+pub mod Own
+pub mod Places
+pub mod Steps
+pub mod Placed
+pub mod Unique
