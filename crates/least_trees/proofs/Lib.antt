@@ -6,3 +6,5 @@ pub mod Loop
 pub mod Chaining
 pub mod Origins
 pub mod Exact
+pub mod Rowed
+pub mod SetRowed

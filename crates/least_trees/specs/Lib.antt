@@ -5,3 +5,6 @@ pub mod Chains
 pub mod Board
 pub mod Solving
 pub mod Rows
+pub mod SetPlans
+pub mod SetPlanned
+pub mod SetRows

@@ -1,5 +1,5 @@
 -- Rows of settled values, and the costs that they stand for.
-use Rattle.std.specs.Prelude.{◌≡◌, ◌<◌, ℕ, ◌+◌, ◌&&◌, List, length, take, drop, map, nat_lt, Option, Some, option_and_then, slice_get, if◌then◌else◌}
+use Rattle.std.specs.Prelude.{◌≡◌, ◌<◌, ℕ, ◌+◌, ◌&&◌, List, length, take, drop, map, nat_lt, Option, Some, None, option_and_then, slice_get, slice_index_or, if◌then◌else◌}
 use Rattle.std.specs.Option.{option_map_or}
 use Rattle.tree_costs.specs.declared.cost.Cost.{Cost}
 use Rattle.tree_costs.specs.declared.cost.Cost.TheVariants.{Inf}
@@ -37,3 +37,18 @@ pub record IsSettled {V : Type 0} (plan : Plan) (cost : V → Cost) (rows : List
   pub count : length rows ≡ plan.count
   pub states : (e : ℕ) → e < plan.count → option_map_or (λ row. length row.p) (slice_get rows e) 0 ≡ plan.states e
   pub solved : IsSolved (graph_of plan.numbers) (m_of cost rows) (p_of cost rows)
+
+-- the value at a place, and those of a range
+pub record IsCut {V : Type 0} (values : List V) (at first count : ℕ) (m : V) (p : List V) : Type 0 where
+  pub own : m ≡ slice_index_or values at m
+  pub range : p ≡ take count (drop first values)
+
+-- an element's row
+abbrev pub IsRowOf : {V : Type 0} → Plan → List V → ℕ → Option (SettledRow V) → Type 0
+IsRowOf plan values e None = ⊥
+IsRowOf plan values e (Some row) = IsCut values (plan.count + e) (base plan e) (plan.states e) row.m row.p
+
+-- the rows of the first n elements
+pub record AreRows {V : Type 0} (plan : Plan) (values : List V) (n : ℕ) (rows : List (SettledRow V)) : Type 0 where
+  pub size : length rows ≡ n
+  pub each : (e : ℕ) → e < n → IsRowOf plan values e (slice_get rows e)

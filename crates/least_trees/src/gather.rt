@@ -83,7 +83,7 @@ fn gather_states<G: StepGraph>(graph: &mut G, e: usize, count: usize, first: usi
     Ok(())
 }
 
-fn first_at(firsts: &[usize], e: usize) -> usize
+pub(crate) fn first_at(firsts: &[usize], e: usize) -> usize
     requires { e < length firsts.now }
     ensures { result ≡ slice_index firsts.now e }
 {
