@@ -101,17 +101,17 @@ module _ (n : ℕ) (done : List Bool) (costs : List Cost) (old new : List ℕ) (
         let ea = P.others (2 * k) a.0 in
         let eb = P.others (2 * k + 1) a.1 in
         elim (cases_eq k j) [
-        | inl e ↦
-            subst (λ z. Wins done costs (slice_index new (2 * k)) (slice_index new (2 * k + 1)) (slice_index new z)) (sym e)
-            (subst (λ z. Wins done costs z (slice_index new (2 * k + 1)) (slice_index new j)) (sym ea)
-            (subst (λ z. Wins done costs (slice_index old (2 * k)) z (slice_index new j)) (sym eb)
-            (subst (λ z. Wins done costs (slice_index old (2 * z)) (slice_index old (2 * z + 1)) (slice_index new j)) (sym e) P.wins)))
-        | inr d ↦
-            subst (λ z. Wins done costs z (slice_index new (2 * k + 1)) (slice_index new k)) (sym ea)
-            (subst (λ z. Wins done costs (slice_index old (2 * k)) z (slice_index new k)) (sym eb)
-            (subst (λ z. Wins done costs (slice_index old (2 * k)) (slice_index old (2 * k + 1)) z) (sym (P.others k d))
-            (B.wins k l h (keep k l h d s))))
-      ];
+          | inl e ↦
+              subst (λ z. Wins done costs (slice_index new (2 * k)) (slice_index new (2 * k + 1)) (slice_index new z)) (sym e)
+              (subst (λ z. Wins done costs z (slice_index new (2 * k + 1)) (slice_index new j)) (sym ea)
+              (subst (λ z. Wins done costs (slice_index old (2 * k)) z (slice_index new j)) (sym eb)
+              (subst (λ z. Wins done costs (slice_index old (2 * z)) (slice_index old (2 * z + 1)) (slice_index new j)) (sym e) P.wins)))
+          | inr d ↦
+              subst (λ z. Wins done costs z (slice_index new (2 * k + 1)) (slice_index new k)) (sym ea)
+              (subst (λ z. Wins done costs (slice_index old (2 * k)) z (slice_index new k)) (sym eb)
+              (subst (λ z. Wins done costs (slice_index old (2 * k)) (slice_index old (2 * k + 1)) z) (sym (P.others k d))
+              (B.wins k l h (keep k l h d s))))
+        ];
   }
 
 -- the next place above l
@@ -120,8 +120,8 @@ pub replayed : (l k : ℕ) (done : List Bool) (costs : List Cost) (old new : Lis
 replayed l k done costs old new a gt lt B P =
     filled (length done) done costs old new (k / 2) P (λ j. IsAbove j l → k ≤ j) (λ j. IsAbove j l → k / 2 ≤ j) (omega arith) (omega arith) B
     (λ j p q d s b.
-      let h = s b in
-      elim (cases_lt j k) [
+    let h = s b in
+    elim (cases_lt j k) [
       | inl t ↦ let u : j ≤ k / 2 = above-next j k l b a t in absurd (d (omega arith))
       | inr t ↦ t
     ])

@@ -197,9 +197,9 @@ module _ (plan : Plan) (costs : List Cost) (P : IsPlan plan) (L : IsLowest plan.
   trees-least : (e : ℕ) → e < plan.count → IsLeast (OfTree G e) (mm e)
   trees-least e h = (
     (λ d o. subst (AtMost (mm e)) (sym o.2)
-      (below-cut cap (mm e) (plan.numbers.weight e + weights G o.0)
-      (attained-is cap (mm e) (elim (top-attained e h) [ inl q ↦ inl q | inr t ↦ inr (plan.numbers.weight e + weights G t.0, t.2) ]))
-      (bounds-step cap (mm e) (Fin (plan.numbers.weight e)) (pp e 0) (plan.numbers.weight e) (weights G o.0) (top-low e h) (omega arith) (forest-low o.0 e 0 o.1)))),
+        (below-cut cap (mm e) (plan.numbers.weight e + weights G o.0)
+        (attained-is cap (mm e) (elim (top-attained e h) [ inl q ↦ inl q | inr t ↦ inr (plan.numbers.weight e + weights G t.0, t.2) ]))
+        (bounds-step cap (mm e) (Fin (plan.numbers.weight e)) (pp e 0) (plan.numbers.weight e) (weights G o.0) (top-low e h) (omega arith) (forest-low o.0 e 0 o.1)))),
     top-attained e h,
   )
 

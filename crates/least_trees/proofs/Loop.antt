@@ -19,13 +19,13 @@ small-at cap (c ∷ cs) h (suc y) = small-at cap cs h.1 y
 
 pub kept-start : (cap : ℕ) (rules : List Rule) (starts : List Cost) (done : List Bool) → NoneDone done → AllSmall cap starts → Kept cap rules starts done starts
 kept-start cap rules starts done none small = record {
-    length_same = refl;
-    attained = λ y. (start y, refl, tt, refl);
-    small = small-at cap starts small;
-    below_start = λ y. at_most-refl (at starts y);
-    ordered = λ y z d o. absurd (true≢false (sym d ∙ none y));
-    sums = λ r m d e. absurd (true≢false (sym d ∙ none r.left))
-  }
+  length_same = refl;
+  attained = λ y. (start y, refl, tt, refl);
+  small = small-at cap starts small;
+  below_start = λ y. at_most-refl (at starts y);
+  ordered = λ y z d o. absurd (true≢false (sym d ∙ none y));
+  sums = λ r m d e. absurd (true≢false (sym d ∙ none r.left));
+}
 
 pending-one : (b : Bool) → (if b then 0 else 1) ≤ 1
 pending-one true = omega arith
@@ -40,4 +40,3 @@ open_in-less [] x h o = absurd (omega arith)
 open_in-less (true ∷ bs) zero h o = absurd (true≢false o)
 open_in-less (false ∷ bs) zero h o = omega arith
 open_in-less (b ∷ bs) (suc x) h o = omega (arith, open_in-less bs x (omega arith) o)
-

@@ -22,8 +22,9 @@ lesser-right Inf d = at_most-refl d
 
 pub lesser-one : (c d : Cost) → (lesser c d ≡ d) ⊎ (lesser c d ≡ c)
 lesser-one (Fin a) (Fin b) = elim (cases_lt a b) [
-      inl h ↦ inr (let e : min a b ≡ a = omega arith in ap Fin e)
-    | inr h ↦ inl (let e : min a b ≡ b = omega arith in ap Fin e) ]
+  | inl h ↦ inr (let e : min a b ≡ a = omega arith in ap Fin e)
+  | inr h ↦ inl (let e : min a b ≡ b = omega arith in ap Fin e)
+]
 lesser-one (Fin a) Inf = inr refl
 lesser-one Inf d = inl refl
 
@@ -88,40 +89,46 @@ module _ (cap : ℕ) (done : List Bool) (x : ℕ) where
   pass : (r : Rule) (rs : List Rule) (costs new : List Cost) → r.target < length costs → applies done x r ≡ true
       → Lowers cap done x rs (relaxed cap r costs) new → Lowers cap done x (r ∷ rs) costs new
   pass r rs costs new lt h L = record {
-      length_same = L.length_same ∙ length-relaxed r costs;
-      lower = λ y. elim (cases_eq y r.target) [
-          inl e ↦ at_most-trans (at new y) (at (relaxed cap r costs) y) (at costs y) (L.lower y)
-            (subst (λ k. AtMost (at (relaxed cap r costs) k) (at costs k)) (sym e)
-              (subst (λ k. AtMost k (at costs r.target)) (sym (at-target r costs lt)) (lesser-right (sum_of cap costs r) (at costs r.target))))
-        | inr n ↦ subst (AtMost (at new y)) (at-other r costs y n) (L.lower y) ];
-      settled = λ y d. L.settled y d ∙ fixed r costs y h d;
-      from = λ y. elim (L.from y) [
-          inr t ↦ inr (t.0, inr t.1, t.2, t.3, t.4 ∙ same-sum r t.0 costs h t.2)
-        | inl e ↦ elim (cases_eq y r.target) [
-              inr n ↦ inl (e ∙ at-other r costs y n)
-            | inl q ↦
-                let v : at new y ≡ lesser (sum_of cap costs r) (at costs r.target) = e ∙ ap (at (relaxed cap r costs)) q ∙ at-target r costs lt in
-                elim (lesser-one (sum_of cap costs r) (at costs r.target)) [
-                  inl w ↦ inl (v ∙ w ∙ ap (at costs) (sym q))
-                | inr w ↦ inr (r, inl refl, h, sym q, v ∙ w) ] ] ];
-      sums = λ s m g. elim m [
-          inl e ↦ subst (λ k. AtMost (at new k.target) (sum_of cap costs k)) (sym e)
-            (at_most-trans (at new r.target) (at (relaxed cap r costs) r.target) (sum_of cap costs r) (L.lower r.target)
-              (subst (λ k. AtMost k (sum_of cap costs r)) (sym (at-target r costs lt)) (lesser-left (sum_of cap costs r) (at costs r.target))))
-        | inr k ↦ subst (AtMost (at new s.target)) (same-sum r s costs h g) (L.sums s k g) ]
-    }
+    length_same = L.length_same ∙ length-relaxed r costs;
+    lower = λ y. elim (cases_eq y r.target) [
+      | inl e ↦ at_most-trans (at new y) (at (relaxed cap r costs) y) (at costs y) (L.lower y)
+          (subst (λ k. AtMost (at (relaxed cap r costs) k) (at costs k)) (sym e)
+          (subst (λ k. AtMost k (at costs r.target)) (sym (at-target r costs lt)) (lesser-right (sum_of cap costs r) (at costs r.target))))
+      | inr n ↦ subst (AtMost (at new y)) (at-other r costs y n) (L.lower y)
+    ];
+    settled = λ y d. L.settled y d ∙ fixed r costs y h d;
+    from = λ y. elim (L.from y) [
+      | inr t ↦ inr (t.0, inr t.1, t.2, t.3, t.4 ∙ same-sum r t.0 costs h t.2)
+      | inl e ↦ elim (cases_eq y r.target) [
+        | inr n ↦ inl (e ∙ at-other r costs y n)
+        | inl q ↦
+            let v : at new y ≡ lesser (sum_of cap costs r) (at costs r.target) = e ∙ ap (at (relaxed cap r costs)) q ∙ at-target r costs lt in
+            elim (lesser-one (sum_of cap costs r) (at costs r.target)) [
+              | inl w ↦ inl (v ∙ w ∙ ap (at costs) (sym q))
+              | inr w ↦ inr (r, inl refl, h, sym q, v ∙ w)
+            ]
+      ]
+    ];
+    sums = λ s m g. elim m [
+      | inl e ↦ subst (λ k. AtMost (at new k.target) (sum_of cap costs k)) (sym e)
+          (at_most-trans (at new r.target) (at (relaxed cap r costs) r.target) (sum_of cap costs r) (L.lower r.target)
+          (subst (λ k. AtMost k (sum_of cap costs r)) (sym (at-target r costs lt)) (lesser-left (sum_of cap costs r) (at costs r.target))))
+      | inr k ↦ subst (AtMost (at new s.target)) (same-sum r s costs h g) (L.sums s k g)
+    ];
+  }
 
   skip : (r : Rule) (rs : List Rule) (costs new : List Cost) → applies done x r ≡ false
       → Lowers cap done x rs costs new → Lowers cap done x (r ∷ rs) costs new
   skip r rs costs new h L = record {
-      length_same = L.length_same;
-      lower = L.lower;
-      settled = L.settled;
-      from = λ y. elim (L.from y) [ inl e ↦ inl e | inr t ↦ inr (t.0, inr t.1, t.2, t.3, t.4) ];
-      sums = λ s m g. elim m [
-          inl e ↦ absurd (true≢false (sym g ∙ ap (applies done x) e ∙ h))
-        | inr k ↦ L.sums s k g ]
-    }
+    length_same = L.length_same;
+    lower = L.lower;
+    settled = L.settled;
+    from = λ y. elim (L.from y) [ inl e ↦ inl e | inr t ↦ inr (t.0, inr t.1, t.2, t.3, t.4) ];
+    sums = λ s m g. elim m [
+      | inl e ↦ absurd (true≢false (sym g ∙ ap (applies done x) e ∙ h))
+      | inr k ↦ L.sums s k g
+    ];
+  }
 
   go : (r : Rule) (rs : List Rule) (costs : List Cost) (b : Bool) → applies done x r ≡ b → r.target < length costs
       → ((c : List Cost) → length c ≡ length costs → Lowers cap done x rs c (lower_all cap done x rs c))

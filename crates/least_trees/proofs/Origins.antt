@@ -190,7 +190,7 @@ module _ (plan : Plan) where
   pub at-state : (e i : ℕ) → e < plan.count → i < plan.states e → at (all_starts plan) (base plan e + i) ≡ start_of plan e i
   at-state e i h g =
       let q : base plan e + i ≡ length (W ++ T) + (states_below plan e + i) =
-          omega (arith, length-append W T, length-weights plan plan.count, length-tops plan.count) in
+      omega (arith, length-append W T, length-weights plan plan.count, length-tops plan.count) in
       ap (at (all_starts plan)) q ∙ get_or-append-add (W ++ T) E (states_below plan e + i) Inf ∙ at-elements plan plan.count e i h g
 
   pub length-firsts : (n : ℕ) → length (first_spots plan n) ≡ n
@@ -219,7 +219,7 @@ pub both_grown : {V : Type 0} (cost : V → Cost) (v0 v1 v2 : List V) (plan : Pl
     → map cost v2 ≡ map cost v1 ++ top_starts n → length v2 ≡ n + n
 both_grown cost v0 v1 v2 plan n e h g =
     let a : length v1 ≡ n =
-        sym (length-map v1 cost) ∙ ap length h ∙ ap (λ z. length (map cost z ++ weight_starts plan n)) e ∙ length-weights plan n in
+    sym (length-map v1 cost) ∙ ap length h ∙ ap (λ z. length (map cost z ++ weight_starts plan n)) e ∙ length-weights plan n in
     sym (length-map v2 cost) ∙ ap length g ∙ length-append (map cost v1) (top_starts n) ∙ ap (λ z. z + length (top_starts n)) (length-map v1 cost ∙ a)
     ∙ ap (λ z. n + z) (length-tops n)
 
@@ -410,8 +410,13 @@ module _ (plan : Plan) where
   length-below : (n : ℕ) → length (rules_below plan n) ≤ steps_below plan n + n
   length-below zero = omega arith
   length-below (suc n) =
-      omega (arith, length-append (rules_below plan n ++ top_rule plan n ∷ []) (rules_within plan n (plan.states n)),
-      length_push (rules_below plan n) (top_rule plan n), length-below n, length-within n (plan.states n))
+      omega (
+        arith,
+        length-append (rules_below plan n ++ top_rule plan n ∷ []) (rules_within plan n (plan.states n)),
+        length_push (rules_below plan n) (top_rule plan n),
+        length-below n,
+        length-within n (plan.states n),
+      )
 
   pub few-rules : length (all_rules plan) ≤ steps_in plan + plan.count
   unfolding steps_in

@@ -40,5 +40,5 @@ module _ {V : Type 0} (cost : V → Cost) (cap : ℕ) (r : Rule) (vs : List V) (
   pub relax-same : (IsLess (cost s) (cost t) → ⊥) → map cost vs ≡ relaxed cap r (map cost vs)
   relax-same h =
       sym (now ∙ ap (λ k. set (map cost vs) r.target k) (lesser-ge (cost s) (cost t) h)
-        ∙ ap (λ k. set (map cost vs) r.target k) (sym (at-map cost vs r.target t et range.0))
-        ∙ set-get_or (map cost vs) r.target Inf)
+      ∙ ap (λ k. set (map cost vs) r.target k) (sym (at-map cost vs r.target t et range.0))
+      ∙ set-get_or (map cost vs) r.target Inf)

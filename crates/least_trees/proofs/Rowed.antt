@@ -100,7 +100,7 @@ module _ {V : Type 0} (plan : Plan) (cost : V → Cost) (values : List V) (rows 
       let m = below-mono plan e plan.count h in
       let k : base plan e + i < length values = omega (arith, m, size) in
       let v : t.0 ≡ get_or values (base plan e + i) t.0 =
-          sym (t.2 t.0) ∙ ap (λ z. get_or z i t.0) r.range ∙ get_or-take (plan.states e) (drop (base plan e) values) i t.0 g ∙ get_or-drop (base plan e) values i t.0 in
+      sym (t.2 t.0) ∙ ap (λ z. get_or z i t.0) r.range ∙ get_or-take (plan.states e) (drop (base plan e) values) i t.0 g ∙ get_or-drop (base plan e) values i t.0 in
       ap (λ z. option_map_or cost z Inf) t.1 ∙ sym (at-map cost values (base plan e + i) t.0 v k)
 
   p-past : (e i : ℕ) (o : Option (SettledRow V)) → e < plan.count → plan.states e ≤ i → IsRowOf plan values e o
@@ -121,11 +121,11 @@ module _ {V : Type 0} (plan : Plan) (cost : V → Cost) (values : List V) (rows 
       | inl g ↦
           p-by e i (slice_get rows e) h g (R.each e h)
           ∙ sym (ap (λ b. cond (b && nat_lt i (plan.states e)) (at costs (base plan e + i)) Inf) (lt-ltb e plan.count h)
-            ∙ ap (λ b. cond (true && b) (at costs (base plan e + i)) Inf) (lt-ltb i (plan.states e) g))
+          ∙ ap (λ b. cond (true && b) (at costs (base plan e + i)) Inf) (lt-ltb i (plan.states e) g))
       | inr g ↦
           p-past e i (slice_get rows e) h g (R.each e h)
           ∙ sym (ap (λ b. cond (b && nat_lt i (plan.states e)) (at costs (base plan e + i)) Inf) (lt-ltb e plan.count h)
-            ∙ ap (λ b. cond (true && b) (at costs (base plan e + i)) Inf) (le-ltb i (plan.states e) g))
+          ∙ ap (λ b. cond (true && b) (at costs (base plan e + i)) Inf) (le-ltb i (plan.states e) g))
     ]
   ]
 

@@ -20,11 +20,21 @@ fn winner<G: StepGraph>(graph: &G, done: &[bool], values: &[G::Value], a: usize,
     if done[b] {
         return a;
     }
-    if graph.less(values[b], values[a]) { b } else { a }
+    if graph.less(values[b], values[a]) {
+        b
+    } else {
+        a
+    }
 }
 
 /// Fills one place of the board from the two below it.
-fn play<G: StepGraph>(graph: &G, done: &[bool], values: &[G::Value], winners: &mut [usize], at: usize)
+fn play<G: StepGraph>(
+    graph: &G,
+    done: &[bool],
+    values: &[G::Value],
+    winners: &mut [usize],
+    at: usize,
+)
     requires lengths { length done.now ≡ length values.now }
     requires size { length winners.old ≡ length done.now + length done.now }
     requires above { at < length done.now }
@@ -37,7 +47,13 @@ fn play<G: StepGraph>(graph: &G, done: &[bool], values: &[G::Value], winners: &m
 }
 
 /// Fills the places above a spot anew, after its cost was lowered or it was settled.
-pub(crate) fn replay<G: StepGraph>(graph: &G, done: &[bool], values: &[G::Value], winners: &mut [usize], y: usize)
+pub(crate) fn replay<G: StepGraph>(
+    graph: &G,
+    done: &[bool],
+    values: &[G::Value],
+    winners: &mut [usize],
+    y: usize,
+)
     requires lengths { length done.now ≡ length values.now }
     requires spot { y < length done.now }
     requires board { IsWholeBut (length done.now + y) (length done.now + y) done.now (map G.Value.cost values.now) winners.old }
@@ -78,7 +94,12 @@ fn empty_board(alloc: Global, count: usize) -> Result<Vec<usize>, NoMemory>
 }
 
 /// The board of these spots.
-pub(crate) fn board<G: StepGraph>(alloc: Global, graph: &G, done: &[bool], values: &[G::Value]) -> Result<Vec<usize>, NoMemory>
+pub(crate) fn board<G: StepGraph>(
+    alloc: Global,
+    graph: &G,
+    done: &[bool],
+    values: &[G::Value],
+) -> Result<Vec<usize>, NoMemory>
     requires lengths { length done.now ≡ length values.now }
     ensures { IfOk result (λ v. IsWhole done.now (map G.Value.cost values.now) v.items) }
 {
@@ -88,7 +109,12 @@ pub(crate) fn board<G: StepGraph>(alloc: Global, graph: &G, done: &[bool], value
 }
 
 /// The spot that is settled next, or None exactly where no spot that is not settled has a finite cost.
-pub(crate) fn next<G: StepGraph>(graph: &G, done: &[bool], values: &[G::Value], winners: &[usize]) -> Option<usize>
+pub(crate) fn next<G: StepGraph>(
+    graph: &G,
+    done: &[bool],
+    values: &[G::Value],
+    winners: &[usize],
+) -> Option<usize>
     requires lengths { length done.now ≡ length values.now }
     requires board { IsWhole done.now (map G.Value.cost values.now) winners.now }
     ensures { IsNext done.now (map G.Value.cost values.now) result }

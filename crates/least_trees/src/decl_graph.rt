@@ -71,8 +71,11 @@ impl<'a> StepGraph for DeclGraph<'a> {
     type Value = Cost;
 
     ghost plan = { λ g. plan_of g.set.now g.cap };
+
     ghost looks = { λ g. g.looks };
+
     ghost sums = { λ g. g.sums };
+
     ghost formed = { λ g. is_plan g.set.now g.cap g.small };
 
     fn count(&self) -> usize {

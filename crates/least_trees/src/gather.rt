@@ -9,7 +9,14 @@ use crate::rules::Rule;
 use jats_chars::NoMemory;
 use std::alloc::Global;
 
-fn push_step(rules: &mut Vec<Rule>, count: usize, first: usize, state: u32, inner: Option<usize>, next: u32) -> Result<(), NoMemory>
+fn push_step(
+    rules: &mut Vec<Rule>,
+    count: usize,
+    first: usize,
+    state: u32,
+    inner: Option<usize>,
+    next: u32,
+) -> Result<(), NoMemory>
     requires state { first + state < 2 ^ 64 }
     requires next { first + next < 2 ^ 64 }
     requires inner { IfSome inner (λ x. count + x < 2 ^ 64) }
@@ -26,7 +33,14 @@ fn push_step(rules: &mut Vec<Rule>, count: usize, first: usize, state: u32, inne
 }
 
 /// Appends the rules of a state's steps, and looks once at each step and once past the last.
-fn gather_steps<G: StepGraph>(graph: &mut G, e: usize, state: u32, count: usize, first: usize, rules: &mut Vec<Rule>) -> Result<(), NoMemory>
+fn gather_steps<G: StepGraph>(
+    graph: &mut G,
+    e: usize,
+    state: u32,
+    count: usize,
+    first: usize,
+    rules: &mut Vec<Rule>,
+) -> Result<(), NoMemory>
     requires element { e < (G.plan graph.old).count }
     requires state { state < (G.plan graph.old).states e }
     requires first { first + (G.plan graph.old).states e < 2 ^ 64 }
@@ -46,7 +60,14 @@ fn gather_steps<G: StepGraph>(graph: &mut G, e: usize, state: u32, count: usize,
 }
 
 /// Appends the rules of a state: none where it accepts, since it costs 0 then.
-fn gather_state<G: StepGraph>(graph: &mut G, e: usize, state: u32, count: usize, first: usize, rules: &mut Vec<Rule>) -> Result<(), NoMemory>
+fn gather_state<G: StepGraph>(
+    graph: &mut G,
+    e: usize,
+    state: u32,
+    count: usize,
+    first: usize,
+    rules: &mut Vec<Rule>,
+) -> Result<(), NoMemory>
     requires element { e < (G.plan graph.old).count }
     requires state { state < (G.plan graph.old).states e }
     requires first { first ≡ base (G.plan graph.old) e }
@@ -65,7 +86,13 @@ fn gather_state<G: StepGraph>(graph: &mut G, e: usize, state: u32, count: usize,
 }
 
 /// Appends the rules of an element's states.
-fn gather_states<G: StepGraph>(graph: &mut G, e: usize, count: usize, first: usize, rules: &mut Vec<Rule>) -> Result<(), NoMemory>
+fn gather_states<G: StepGraph>(
+    graph: &mut G,
+    e: usize,
+    count: usize,
+    first: usize,
+    rules: &mut Vec<Rule>,
+) -> Result<(), NoMemory>
     requires element { e < (G.plan graph.old).count }
     requires first { first ≡ base (G.plan graph.old) e }
     requires small { first + (G.plan graph.old).states e < 2 ^ 64 }
@@ -91,7 +118,12 @@ pub(crate) fn first_at(firsts: &[usize], e: usize) -> usize
 }
 
 /// The rules of a graph.
-pub(crate) fn gather<G: StepGraph>(alloc: Global, graph: &mut G, firsts: &[usize], spots: usize) -> Result<Vec<Rule>, NoMemory>
+pub(crate) fn gather<G: StepGraph>(
+    alloc: Global,
+    graph: &mut G,
+    firsts: &[usize],
+    spots: usize,
+) -> Result<Vec<Rule>, NoMemory>
     requires firsts { firsts.now ≡ first_spots (G.plan graph.old) (G.plan graph.old).count }
     requires spots { spots ≡ base (G.plan graph.old) (G.plan graph.old).count }
     requires room { G.looks graph.old + steps_in (G.plan graph.old) + states_in (G.plan graph.old) < 2 ^ 63 }

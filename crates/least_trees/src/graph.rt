@@ -18,7 +18,9 @@ pub trait StepGraph {
     type Value: Worth;
 
     ghost plan: { Self → Plan };
+
     ghost looks: { Self → ℕ };
+
     ghost sums: { Self → ℕ };
 
     /// How many elements there are.

@@ -12,7 +12,13 @@ use crate::graph::{StepGraph, Worth};
 use crate::rules::{Part, Rule, rule_applies};
 
 /// Lowers the cost of the rule's target to the sum of its parts.
-fn relax<G: StepGraph>(graph: &mut G, rule: Rule, done: &[bool], values: &mut [G::Value], winners: &mut [usize])
+fn relax<G: StepGraph>(
+    graph: &mut G,
+    rule: Rule,
+    done: &[bool],
+    values: &mut [G::Value],
+    winners: &mut [usize],
+)
     requires range { InRange (length values.old) rule }
     requires lengths { length done.now ≡ length values.old }
     requires board { IsWhole done.now (map G.Value.cost values.old) winners.old }
@@ -31,7 +37,14 @@ fn relax<G: StepGraph>(graph: &mut G, rule: Rule, done: &[bool], values: &mut [G
 }
 
 /// Lowers what one rule lowers, where it applies.
-fn visit<G: StepGraph>(graph: &mut G, rule: Rule, done: &[bool], x: usize, values: &mut [G::Value], winners: &mut [usize])
+fn visit<G: StepGraph>(
+    graph: &mut G,
+    rule: Rule,
+    done: &[bool],
+    x: usize,
+    values: &mut [G::Value],
+    winners: &mut [usize],
+)
     requires range { InRange (length values.old) rule }
     requires lengths { length done.now ≡ length values.old }
     requires board { IsWhole done.now (map G.Value.cost values.old) winners.old }
@@ -57,7 +70,16 @@ fn rule_before(rules: &[Rule], place: usize) -> Rule
 }
 
 /// Lowers what the sums with x as this part lower.
-fn lower_along<G: StepGraph>(graph: &mut G, rules: &[Rule], chain: &Chain, part: Part, done: &[bool], x: usize, values: &mut [G::Value], winners: &mut [usize])
+fn lower_along<G: StepGraph>(
+    graph: &mut G,
+    rules: &[Rule],
+    chain: &Chain,
+    part: Part,
+    done: &[bool],
+    x: usize,
+    values: &mut [G::Value],
+    winners: &mut [usize],
+)
     requires range { AllIn (length values.old) rules.now }
     requires chained { Chains (length values.old) part rules.now chain.now }
     requires spot { x < length values.old }
@@ -78,7 +100,16 @@ fn lower_along<G: StepGraph>(graph: &mut G, rules: &[Rule], chain: &Chain, part:
 }
 
 /// Lowers what the sums with x as a part lower.
-pub(crate) fn lower<G: StepGraph>(graph: &mut G, rules: &[Rule], left: &Chain, right: &Chain, done: &[bool], x: usize, values: &mut [G::Value], winners: &mut [usize])
+pub(crate) fn lower<G: StepGraph>(
+    graph: &mut G,
+    rules: &[Rule],
+    left: &Chain,
+    right: &Chain,
+    done: &[bool],
+    x: usize,
+    values: &mut [G::Value],
+    winners: &mut [usize],
+)
     requires range { AllIn (length values.old) rules.now }
     requires left { Chains (length values.old) Left rules.now left.now }
     requires right { Chains (length values.old) Right rules.now right.now }

@@ -12,7 +12,13 @@ use jats_chars::{ListOf, NoMemory};
 use std::alloc::Global;
 
 /// The value at a place, and those of a range.
-pub(crate) fn cut_out<V: Worth>(alloc: Global, values: &[V], at: usize, first: usize, count: usize) -> Result<SettledRow<V>, NoMemory>
+pub(crate) fn cut_out<V: Worth>(
+    alloc: Global,
+    values: &[V],
+    at: usize,
+    first: usize,
+    count: usize,
+) -> Result<SettledRow<V>, NoMemory>
     requires at { at < length values.now }
     requires range { first + count ≤ length values.now }
     ensures { IfOk result (λ row. IsCut values.now at first count row.m row.p) }
@@ -26,7 +32,11 @@ pub(crate) fn cut_out<V: Worth>(alloc: Global, values: &[V], at: usize, first: u
 }
 
 /// The rows of a graph that is solved.
-pub(crate) fn rows_of<G: StepGraph>(alloc: Global, graph: &G, spots: &Spots<G::Value>) -> Result<ListOf<SettledRow<G::Value>>, NoMemory>
+pub(crate) fn rows_of<G: StepGraph>(
+    alloc: Global,
+    graph: &G,
+    spots: &Spots<G::Value>,
+) -> Result<ListOf<SettledRow<G::Value>>, NoMemory>
     requires { AreExact (G.plan graph.now) (map G.Value.cost spots.now.values.items) spots.now.firsts.items }
     ensures { IfOk result (λ rows. IsSettled (G.plan graph.now) G.Value.cost rows) }
 {
@@ -46,7 +56,10 @@ pub(crate) fn rows_of<G: StepGraph>(alloc: Global, graph: &G, spots: &Spots<G::V
 /// The least costs of a graph: values that stand for the least weight of a tree of each element, and for the least sum of
 /// these along the steps from each state to one that accepts, cut at one above the cap. Each state is settled once, the one
 /// with the smallest cost first; each step is looked at once at most, and its sum taken once at most, whatever is answered.
-pub fn least_counted<G: StepGraph>(alloc: Global, graph: &mut G) -> Result<Settled<G::Value>, NoMemory>
+pub fn least_counted<G: StepGraph>(
+    alloc: Global,
+    graph: &mut G,
+) -> Result<Settled<G::Value>, NoMemory>
     requires looks { G.looks graph.old + steps_in (G.plan graph.old) + states_in (G.plan graph.old) < 2 ^ 63 }
     requires sums { G.sums graph.old + steps_in (G.plan graph.old) + (G.plan graph.old).count < 2 ^ 63 }
     ensures exact { IfOk result (λ it. IsSettled (G.plan graph.old) G.Value.cost it.rows) }

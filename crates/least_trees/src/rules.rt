@@ -23,8 +23,5 @@ pub(crate) fn rule_applies(rule: Rule, done: &[bool], x: usize) -> bool
     requires { InRange (length done.now) rule }
     ensures { result ≡ applies done.now x rule }
 {
-    (rule.left == x || rule.right == x)
-        && done[rule.left]
-        && done[rule.right]
-        && !done[rule.target]
+    (rule.left == x || rule.right == x) && done[rule.left] && done[rule.right] && !done[rule.target]
 }

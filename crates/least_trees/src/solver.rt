@@ -14,7 +14,16 @@ use crate::lowering::lower;
 use crate::rules::Rule;
 
 /// Settles a spot and lowers what it lowers.
-fn settle_one<G: StepGraph>(graph: &mut G, rules: &[Rule], left: &Chain, right: &Chain, x: usize, done: &mut [bool], values: &mut [G::Value], winners: &mut [usize])
+fn settle_one<G: StepGraph>(
+    graph: &mut G,
+    rules: &[Rule],
+    left: &Chain,
+    right: &Chain,
+    x: usize,
+    done: &mut [bool],
+    values: &mut [G::Value],
+    winners: &mut [usize],
+)
     requires range { AllIn (length values.old) rules.now }
     requires left { Chains (length values.old) Left rules.now left.now }
     requires right { Chains (length values.old) Right rules.now right.now }
@@ -35,7 +44,15 @@ fn settle_one<G: StepGraph>(graph: &mut G, rules: &[Rule], left: &Chain, right: 
 }
 
 /// Settles each spot once, the one with the smallest cost first.
-pub(crate) fn settle<G: StepGraph>(graph: &mut G, rules: &[Rule], left: &Chain, right: &Chain, done: &mut [bool], values: &mut [G::Value], winners: &mut [usize])
+pub(crate) fn settle<G: StepGraph>(
+    graph: &mut G,
+    rules: &[Rule],
+    left: &Chain,
+    right: &Chain,
+    done: &mut [bool],
+    values: &mut [G::Value],
+    winners: &mut [usize],
+)
     requires range { AllIn (length values.old) rules.now }
     requires left { Chains (length values.old) Left rules.now left.now }
     requires right { Chains (length values.old) Right rules.now right.now }

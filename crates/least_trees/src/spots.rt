@@ -48,7 +48,11 @@ fn start_value<G: StepGraph>(graph: &G, e: usize, state: u32) -> G::Value
     }
 }
 
-fn push_states<G: StepGraph>(graph: &G, e: usize, values: &mut Vec<G::Value>) -> Result<(), NoMemory>
+fn push_states<G: StepGraph>(
+    graph: &G,
+    e: usize,
+    values: &mut Vec<G::Value>,
+) -> Result<(), NoMemory>
     requires { e < (G.plan graph.now).count }
     ensures { OnOk result (map G.Value.cost values.new.items ≡ map G.Value.cost values.old.items ++ state_starts (G.plan graph.now) e ((G.plan graph.now).states e)) }
 {
@@ -59,7 +63,11 @@ fn push_states<G: StepGraph>(graph: &G, e: usize, values: &mut Vec<G::Value>) ->
     Ok(())
 }
 
-fn push_elements<G: StepGraph>(graph: &G, values: &mut Vec<G::Value>, bases: &mut Vec<usize>) -> Result<(), NoMemory>
+fn push_elements<G: StepGraph>(
+    graph: &G,
+    values: &mut Vec<G::Value>,
+    bases: &mut Vec<usize>,
+) -> Result<(), NoMemory>
     requires { length values.old.items ≡ (G.plan graph.now).count + (G.plan graph.now).count }
     ensures values { OnOk result (map G.Value.cost values.new.items ≡ map G.Value.cost values.old.items ++ element_starts (G.plan graph.now) (G.plan graph.now).count) }
     ensures bases { OnOk result (bases.new.items ≡ bases.old.items ++ first_spots (G.plan graph.now) (G.plan graph.now).count) }

@@ -24,9 +24,9 @@ returns-else-less g c =
     let first = slice_index c.args.winners.now 1 in
     let lt : first < length c.args.values.now = subst (λ z. first < z) c.requires.lengths (c.requires.board.within 1 (omega arith) (omega arith)) in
     let q : at (map g.G.Value.Worth.cost c.args.values.now) first ≡ g.G.Value.Worth.cost c.index-values-first.result =
-        at-map g.G.Value.Worth.cost c.args.values.now first c.index-values-first.result c.index-values-first.is lt in
+    at-map g.G.Value.Worth.cost c.args.values.now first c.index-values-first.result c.index-values-first.is lt in
     next-none c.args.done.now (map g.G.Value.Worth.cost c.args.values.now) c.args.winners.now
     (c.requires.lengths ∙ sym (length-map c.args.values.now g.G.Value.Worth.cost)) c.requires.board pos
     (inr (λ h. true≢false (sym (c.if-less.ensures.1
-      (subst (λ z. IsLess z (g.G.Value.Worth.cost c.inf.result)) q
-      (subst (λ z. IsLess (at (map g.G.Value.Worth.cost c.args.values.now) first) z) (sym c.inf.ensures) h))))))
+    (subst (λ z. IsLess z (g.G.Value.Worth.cost c.inf.result)) q
+    (subst (λ z. IsLess (at (map g.G.Value.Worth.cost c.args.values.now) first) z) (sym c.inf.ensures) h))))))

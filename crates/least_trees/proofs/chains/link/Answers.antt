@@ -23,7 +23,7 @@ loop-k-preserved c =
     let inside : key < length heads = omega (arith, below, c.loop-k.invariant.spots) in
     let read : c.index.result.now ≡ slice_index heads key = get_or_read heads key c.index.result.now inside c.index.ensures 0 in
     let was : c.index.result.now ≡ last ks (slice_index ks c.loop-k.k) c.loop-k.k =
-        read ∙ c.loop-k.invariant.ends key below ∙ ap (λ z. last ks z c.loop-k.k) c.key_at-key.ensures in
+    read ∙ c.loop-k.invariant.ends key below ∙ ap (λ z. last ks z c.loop-k.k) c.key_at-key.ensures in
     record {
       spots = length-set heads key (c.loop-k.k + 1) ∙ c.loop-k.invariant.spots;
       size = ap length c.in_ok-push.ensures.items ∙ length_push c.loop-k.links.items c.index.result.now ∙ ap (λ z. z + 1) c.loop-k.invariant.size;

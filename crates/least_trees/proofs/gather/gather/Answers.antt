@@ -39,7 +39,7 @@ gather_states-requires-clause-room g c =
     let lt : e < plan.count = omega (arith, c.count-count.ensures) in
     let s : (g.G.StepGraph.plan c.loop-e.graph).states e ≡ plan.states e = ap (λ p. p.states e) c.loop-e.invariant.same in
     let t : steps_within (g.G.StepGraph.plan c.loop-e.graph) e ((g.G.StepGraph.plan c.loop-e.graph).states e) ≡ steps_within plan e (plan.states e) =
-        ap (λ p. steps_within p e (p.states e)) c.loop-e.invariant.same in
+    ap (λ p. steps_within p e (p.states e)) c.loop-e.invariant.same in
     omega (arith, s, t, steps-mono plan e plan.count lt, below-mono plan e plan.count lt, c.loop-e.invariant.looks, c.requires.room)
 
 pub returns-in_err-gather_states-clause-looks : goal.returns-in_err-gather_states-clause-looks
@@ -50,7 +50,7 @@ returns-in_err-gather_states-clause-looks g c =
     let lt : e < plan.count = omega (arith, c.count-count.ensures) in
     let s : (g.G.StepGraph.plan c.loop-e.graph).states e ≡ plan.states e = ap (λ p. p.states e) c.loop-e.invariant.same in
     let t : steps_within (g.G.StepGraph.plan c.loop-e.graph) e ((g.G.StepGraph.plan c.loop-e.graph).states e) ≡ steps_within plan e (plan.states e) =
-        ap (λ p. steps_within p e (p.states e)) c.loop-e.invariant.same in
+    ap (λ p. steps_within p e (p.states e)) c.loop-e.invariant.same in
     omega (arith, s, t, steps-mono plan e plan.count lt, below-mono plan e plan.count lt, c.loop-e.invariant.looks, c.gather_states.ensures.looks)
 
 pub loop-e-preserved : goal.loop-e-preserved
@@ -60,14 +60,14 @@ loop-e-preserved g c =
     let lt : e < plan.count = omega (arith, c.count-count.ensures) in
     let s : (g.G.StepGraph.plan c.loop-e.graph).states e ≡ plan.states e = ap (λ p. p.states e) c.loop-e.invariant.same in
     let t : steps_within (g.G.StepGraph.plan c.loop-e.graph) e ((g.G.StepGraph.plan c.loop-e.graph).states e) ≡ steps_within plan e (plan.states e) =
-        ap (λ p. steps_within p e (p.states e)) c.loop-e.invariant.same in
+    ap (λ p. steps_within p e (p.states e)) c.loop-e.invariant.same in
     let q : c.first_at-first.result ≡ base plan e = c.first_at-first.ensures ∙ ap (λ z. slice_index z e) c.requires.firsts ∙ first_at plan plan.count e lt in
     record {
       same = c.gather_states.ensures.same ∙ c.loop-e.invariant.same;
       rules = c.in_ok-gather_states.ensures.rules
           ∙ ap (λ p. c.push.new.self.items ++ rules_within p e (p.states e)) c.loop-e.invariant.same
           ∙ ap (λ z. z ++ rules_within plan e (plan.states e)) (c.in_ok-push.ensures.items ∙ ap (λ z. z ++ record { target = c.count-count.result + e; left = e; right = c.first_at-first.result } ∷ []) c.loop-e.invariant.rules
-            ∙ ap (λ z. rules_below plan e ++ z ∷ []) (top_is plan e c.count-count.result c.first_at-first.result c.count-count.ensures q))
+          ∙ ap (λ z. rules_below plan e ++ z ∷ []) (top_is plan e c.count-count.result c.first_at-first.result c.count-count.ensures q))
           ∙ sym (below_more_rules plan e);
       looks = omega (arith, s, t, steps_below_more plan e, states_below_more plan e, c.loop-e.invariant.looks, c.gather_states.ensures.looks);
       sums = c.gather_states.ensures.sums ∙ c.loop-e.invariant.sums;

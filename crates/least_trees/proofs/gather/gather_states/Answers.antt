@@ -7,7 +7,7 @@ gather_state-requires-clause-room g c =
     let plan = g.G.StepGraph.plan c.args.graph.now in
     let lt : c.loop-state.state < plan.states c.args.e = omega (arith, c.states-states.ensures) in
     let q : length ((g.G.StepGraph.plan c.loop-state.graph).numbers.steps c.args.e c.loop-state.state) ≡ length (plan.numbers.steps c.args.e c.loop-state.state) =
-        ap (λ p. length (p.numbers.steps c.args.e c.loop-state.state)) c.loop-state.invariant.same in
+    ap (λ p. length (p.numbers.steps c.args.e c.loop-state.state)) c.loop-state.invariant.same in
     omega (arith, q, inner-mono plan c.args.e c.loop-state.state (plan.states c.args.e) lt, c.loop-state.invariant.looks, c.requires.room)
 
 pub returns-in_err-gather_state-clause-looks : goal.returns-in_err-gather_state-clause-looks
@@ -15,5 +15,5 @@ returns-in_err-gather_state-clause-looks g c =
     let plan = g.G.StepGraph.plan c.args.graph.now in
     let lt : c.loop-state.state < plan.states c.args.e = omega (arith, c.states-states.ensures) in
     let q : length ((g.G.StepGraph.plan c.loop-state.graph).numbers.steps c.args.e c.loop-state.state) ≡ length (plan.numbers.steps c.args.e c.loop-state.state) =
-        ap (λ p. length (p.numbers.steps c.args.e c.loop-state.state)) c.loop-state.invariant.same in
+    ap (λ p. length (p.numbers.steps c.args.e c.loop-state.state)) c.loop-state.invariant.same in
     omega (arith, q, inner-mono plan c.args.e c.loop-state.state (plan.states c.args.e) lt, c.loop-state.invariant.looks, c.gather_state.ensures.looks)

@@ -11,10 +11,10 @@ push_step-requires-clause-next g c =
     let plan = g.G.StepGraph.plan c.args.graph.now in
     let steps = plan.numbers.steps c.args.e c.args.state in
     let s : slice_get steps c.loop-inner.k ≡ Some (c.in-Some.inner, c.in-Some.next) =
-        ap (λ p. slice_get (p.numbers.steps c.args.e c.args.state) c.loop-inner.k) (sym c.loop-inner.invariant.same) ∙ sym c.look.ensures.step ∙ (cc) in
+    ap (λ p. slice_get (p.numbers.steps c.args.e c.args.state) c.loop-inner.k) (sym c.loop-inner.invariant.same) ∙ sym c.look.ensures.step ∙ (cc) in
     let P : IsPlan plan = g.met.G.StepGraph.formed c.args.graph.now in
     let h : IsWithin plan c.args.e (c.in-Some.inner, c.in-Some.next) =
-        P.within c.args.e c.args.state (c.in-Some.inner, c.in-Some.next) (step_contained steps c.loop-inner.k (c.in-Some.inner, c.in-Some.next) s) in
+    P.within c.args.e c.args.state (c.in-Some.inner, c.in-Some.next) (step_contained steps c.loop-inner.k (c.in-Some.inner, c.in-Some.next) s) in
     let n : c.in-Some.next < plan.states c.args.e = h.0 in
     omega (arith, n, c.requires.first)
 
@@ -23,10 +23,10 @@ push_step-requires-clause-inner g c =
     let plan = g.G.StepGraph.plan c.args.graph.now in
     let steps = plan.numbers.steps c.args.e c.args.state in
     let s : slice_get steps c.loop-inner.k ≡ Some (c.in-Some.inner, c.in-Some.next) =
-        ap (λ p. slice_get (p.numbers.steps c.args.e c.args.state) c.loop-inner.k) (sym c.loop-inner.invariant.same) ∙ sym c.look.ensures.step ∙ (cc) in
+    ap (λ p. slice_get (p.numbers.steps c.args.e c.args.state) c.loop-inner.k) (sym c.loop-inner.invariant.same) ∙ sym c.look.ensures.step ∙ (cc) in
     let P : IsPlan plan = g.met.G.StepGraph.formed c.args.graph.now in
     let h : IsWithin plan c.args.e (c.in-Some.inner, c.in-Some.next) =
-        P.within c.args.e c.args.state (c.in-Some.inner, c.in-Some.next) (step_contained steps c.loop-inner.k (c.in-Some.inner, c.in-Some.next) s) in
+    P.within c.args.e c.args.state (c.in-Some.inner, c.in-Some.next) (step_contained steps c.loop-inner.k (c.in-Some.inner, c.in-Some.next) s) in
     on_fits c.args.count plan.count 18446744073709551616 c.in-Some.inner h.1 c.requires.count
 
 pub loop-inner-smaller : goal.loop-inner-smaller
@@ -34,7 +34,7 @@ loop-inner-smaller g c =
     let plan = g.G.StepGraph.plan c.args.graph.now in
     let steps = plan.numbers.steps c.args.e c.args.state in
     let s : slice_get steps c.loop-inner.k ≡ Some (c.in-Some.inner, c.in-Some.next) =
-        ap (λ p. slice_get (p.numbers.steps c.args.e c.args.state) c.loop-inner.k) (sym c.loop-inner.invariant.same) ∙ sym c.look.ensures.step ∙ (cc) in
+    ap (λ p. slice_get (p.numbers.steps c.args.e c.args.state) c.loop-inner.k) (sym c.loop-inner.invariant.same) ∙ sym c.look.ensures.step ∙ (cc) in
     let w : c.loop-inner.k < length steps = slice_get_within steps c.loop-inner.k (c.in-Some.inner, c.in-Some.next) s in
     omega arith
 
@@ -42,7 +42,7 @@ pub loop-inner-preserved : goal.loop-inner-preserved
 loop-inner-preserved g c =
     let steps = (g.G.StepGraph.plan c.args.graph.now).numbers.steps c.args.e c.args.state in
     let s : slice_get steps c.loop-inner.k ≡ Some (c.in-Some.inner, c.in-Some.next) =
-        ap (λ p. slice_get (p.numbers.steps c.args.e c.args.state) c.loop-inner.k) (sym c.loop-inner.invariant.same) ∙ sym c.look.ensures.step ∙ (cc) in
+    ap (λ p. slice_get (p.numbers.steps c.args.e c.args.state) c.loop-inner.k) (sym c.loop-inner.invariant.same) ∙ sym c.look.ensures.step ∙ (cc) in
     let rest = step_rules c.args.count c.args.first c.args.state (c.in-Some.inner, c.in-Some.next) in
     let before = rules_of_steps c.args.count c.args.first c.args.state (take c.loop-inner.k steps) in
     record {
@@ -58,5 +58,5 @@ pub returns-clause-rules : goal.returns-clause-rules
 returns-clause-rules g c =
     let steps = (g.G.StepGraph.plan c.args.graph.now).numbers.steps c.args.e c.args.state in
     let s : slice_get steps c.loop-inner.k ≡ None =
-        ap (λ p. slice_get (p.numbers.steps c.args.e c.args.state) c.loop-inner.k) (sym c.loop-inner.invariant.same) ∙ sym c.in_default.ensures.step in
+    ap (λ p. slice_get (p.numbers.steps c.args.e c.args.state) c.loop-inner.k) (sym c.loop-inner.invariant.same) ∙ sym c.in_default.ensures.step in
     c.loop-inner.invariant.rules ∙ ap (λ z. c.args.rules.now.items ++ rules_of_steps c.args.count c.args.first c.args.state z) (steps_all steps c.loop-inner.k s)

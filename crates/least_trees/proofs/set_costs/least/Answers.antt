@@ -23,6 +23,6 @@ least_counted-requires-clause-sums c =
 pub returns-clause-exact : goal.returns-clause-exact
 returns-clause-exact c =
     let S : IsSettled (plan_of c.args.set.now c.args.cap) (λ (x : Cost). x) c.in_ok-settled.settled.rows =
-        subst (λ p. IsSettled p (λ (x : Cost). x) c.in_ok-settled.settled.rows) c.new-graph.ensures.plan c.in_ok-settled.ensures.exact in
+    subst (λ p. IsSettled p (λ (x : Cost). x) c.in_ok-settled.settled.rows) c.new-graph.ensures.plan c.in_ok-settled.ensures.exact in
     subst (λ z. IsExact c.args.set.now (record { cap = c.args.cap; rows = z }))
     (sym (c.in_ok-rows.ensures ∙ ap (map least_row) c.as_slice.ensures)) (table c.args.set.now c.args.cap c.count.ensures.kept c.in_ok-settled.settled.rows S)

@@ -46,7 +46,7 @@ settle-requires-clause-range g c =
     let P : IsPlan plan = g.met.G.StepGraph.formed c.args.graph.now in
     let S : IsSpots plan (map g.G.Value.Worth.cost items) c.in_ok-spots.spots.firsts.items = c.in_ok-spots.ensures in
     let n : length c.as_mut_slice-2.result.now ≡ base plan plan.count =
-        ap length c.as_mut_slice-2.ensures.value ∙ sym (length-map items g.G.Value.Worth.cost) ∙ ap length S.starts_are ∙ length-starts plan in
+    ap length c.as_mut_slice-2.ensures.value ∙ sym (length-map items g.G.Value.Worth.cost) ∙ ap length S.starts_are ∙ length-starts plan in
     let r : c.as_slice-6.result.now ≡ all_rules plan = c.as_slice-6.ensures.value ∙ c.in_ok-rules.ensures.rules in
     subst (λ z. AllIn (length c.as_mut_slice-2.result.now) z) (sym r) (subst (λ k. AllIn k (all_rules plan)) (sym n) (rules-in-range plan P))
 
@@ -79,9 +79,9 @@ returns-clause-exact g c =
     let k : length new ≡ c.in_ok-spots.spots.values.len = omega (arith, n, c.in_ok-spots.spots.values.ok.0) in
     let t : take c.in_ok-spots.spots.values.len (new ++ drop (length new) items) ≡ new = take_at new (drop (length new) items) c.in_ok-spots.spots.values.len k in
     let L : IsLowest plan.numbers.cap (all_rules plan) (all_starts plan) (map cost new) =
-        subst (λ p. IsLowest p.numbers.cap (all_rules plan) (all_starts plan) (map cost new)) c.gather.ensures.same
-        (subst (λ z. IsLowest (g.G.StepGraph.plan c.gather.new.graph).numbers.cap z (all_starts plan) (map cost new)) r
-        (subst (λ z. IsLowest (g.G.StepGraph.plan c.gather.new.graph).numbers.cap c.as_slice-6.result.now z (map cost new)) v c.settle.ensures.lowest)) in
+    subst (λ p. IsLowest p.numbers.cap (all_rules plan) (all_starts plan) (map cost new)) c.gather.ensures.same
+    (subst (λ z. IsLowest (g.G.StepGraph.plan c.gather.new.graph).numbers.cap z (all_starts plan) (map cost new)) r
+    (subst (λ z. IsLowest (g.G.StepGraph.plan c.gather.new.graph).numbers.cap c.as_slice-6.result.now z (map cost new)) v c.settle.ensures.lowest)) in
     let A : AreExact plan (map cost new) c.in_ok-spots.spots.firsts.items = record {
       size = length-map new cost ∙ n ∙ sym (length-map items cost) ∙ ap length S.starts_are ∙ length-starts plan;
       firsts_are = S.firsts_are;

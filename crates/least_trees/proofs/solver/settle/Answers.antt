@@ -56,11 +56,11 @@ loop-x-preserved g c =
     let done' = set c.loop-x.done x true in
     let range : AllIn (length costs) rs = subst (λ n. AllIn n rs) (sym (length-map c.loop-x.values g.G.Value.Worth.cost ∙ c.loop-x.invariant.kept_length)) c.requires.range in
     let t : Kept cap rs starts done' (lower_all cap done' x (all_visited rs x) costs) =
-        turn cap rs starts c.loop-x.done costs (lower_all cap done' x (all_visited rs x) costs) x c.loop-x.invariant.kept b.0 b.1 b.2 (lowers_all cap done' x rs costs range) in
+    turn cap rs starts c.loop-x.done costs (lower_all cap done' x (all_visited rs x) costs) x c.loop-x.invariant.kept b.0 b.1 b.2 (lowers_all cap done' x rs costs range) in
     let v = visited-once (length c.args.values.now) done' x rs c.requires.range in
     let D = c.settle_one.ensures.done in
     let V : map g.G.Value.Worth.cost c.settle_one.new.values ≡ lower_all cap done' x (all_visited rs x) costs =
-        c.settle_one.ensures.value ∙ ap (λ p. lower_all p.numbers.cap done' x (all_visited rs x) costs) c.loop-x.invariant.same in
+    c.settle_one.ensures.value ∙ ap (λ p. lower_all p.numbers.cap done' x (all_visited rs x) costs) c.loop-x.invariant.same in
     let o = once c.loop-x.done x b.0 b.1 rs in
     let p : pending c.settle_one.new.done rs ≡ pending done' rs = ap (λ d. pending d rs) D in
     record {
