@@ -1,0 +1,6 @@
+use Rattle.std.proofs.Common.{◌≡◌, ◌++◌, map}
+use Rattle.least_trees.specs.Spots.{top_starts}
+use Rattle.least_trees.proofs.spots.push_tops.Given as goal
+
+abbrev pub invariant-loop-e : goal.invariant-loop-e
+invariant-loop-e g l = map g.G.Value.Worth.cost l.values.items ≡ map g.G.Value.Worth.cost l.initial.values.items ++ top_starts l.e

@@ -1,0 +1,10 @@
+pub mod Plans
+pub mod Rules
+pub mod Spots
+pub mod Chains
+pub mod Board
+pub mod Solving
+pub mod Rows
+pub mod SetPlans
+pub mod SetPlanned
+pub mod SetRows
