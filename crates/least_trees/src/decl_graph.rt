@@ -1,8 +1,9 @@
 //! A set of declarations as a graph of steps.
 
-ghost use Rattle.std.specs.Prelude.{◌≡◌, ◌≤◌, ◌<◌, ◌+◌, ℕ, List, option_map, slice_get, Option, IsTrue, ◌↔◌};
+ghost use Rattle.std.specs.Prelude.{◌≡◌, ◌≤◌, ◌<◌, ◌+◌, ℕ, List, map, option_map, slice_get, Option, IsTrue, ◌↔◌};
 ghost use Rattle.std.specs.Option.{option_copied};
 ghost use Rattle.decl_set.specs.Declarations.{Declarations};
+ghost use Rattle.decl_set.specs.Steps.{steps_at};
 ghost use Rattle.tree_costs.specs.Costs.{sum as cost_sum};
 ghost use Rattle.tree_costs.specs.Leasts.{place_of};
 ghost use Rattle.least_trees.specs.SetPlanned.{is_plan};
@@ -11,7 +12,6 @@ ghost use Rattle.least_trees.specs.SetPlans.{plan_of};
 
 use crate::graph::{StepGraph, Worth};
 use decl_set::DeclSet;
-use jats_chars::Name;
 use position_automata::Automaton;
 use tree_costs::{Cost, at_most, sum};
 
@@ -40,14 +40,11 @@ fn automaton_at(set: &DeclSet, e: usize) -> Option<&Automaton>
     }
 }
 
-/// A step with the place of its name in place of the name.
-fn numbered(set: &DeclSet, step: Option<(&Name, u32)>) -> Option<(Option<usize>, u32)>
-    ensures { result ≡ option_map {U = Option ℕ × ℕ} (λ s. (place_of set.now s.0.now, s.1)) step.entry }
+/// The k-th step of a state of the element at a place, with the place of the step's element.
+fn child_step(set: &DeclSet, e: usize, state: u32, k: usize) -> Option<(Option<usize>, u32)>
+    ensures { result ≡ slice_get (map (λ s. (place_of set.now s.0, s.1)) (steps_at set.now (slice_get set.now.elements e) state)) k }
 {
-    match step {
-        None => None,
-        Some((name, next)) => Some((set.index_of(name), next)),
-    }
+    set.child_at(e, state, k)
 }
 
 impl<'a> DeclGraph<'a> {
@@ -98,7 +95,7 @@ impl<'a> StepGraph for DeclGraph<'a> {
 
     fn look(&mut self, e: usize, state: u32, k: usize) -> Option<(Option<usize>, u32)> {
         self.looks += 1;
-        numbered(self.set, self.set.step_at(e, state, k))
+        child_step(self.set, e, state, k)
     }
 
     fn weight(&self, _e: usize) -> Cost {
