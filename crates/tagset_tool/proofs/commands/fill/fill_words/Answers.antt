@@ -1,4 +1,5 @@
-use Rattle.std.proofs.Common.{arith, IfSome, subst, sym, Ok, Err}
+use Rattle.std.proofs.Common.{ℕ, List, arith, IfSome, subst, sym, Ok, Err}
+use Rattle.document_trees.specs.Trees.{Node}
 use Rattle.module_reader.proofs.Told.{cause_later, cause_of}
 use Rattle.tagset_tool.proofs.Asked.{absence_of, five_words, four_words, told_both, told_stopped, told_stopped_then, word_at}
 use Rattle.tagset_tool.proofs.Causes.{no_cause}
@@ -29,10 +30,18 @@ returns-in-Err-clause-told g c =
 
 pub returns-in-Err-load_article-clause-told : goal.returns-in-Err-load_article-clause-told
 returns-in-Err-load_article-clause-told g c =
+    let four = four_words c.args.words.now c.requires in
+    let named = word_at c.args.words.now 3 c.index-words-3.result (omega arith) c.index-words-3.is in
+    let read = rw c.in-Ok.ensures.keeps at c.in-Err-load_article.ensures.told in
     told_stopped_then (g.S.Store.holds c.args.store.now) (λ files. set_by files (set_words c.args.words.now 1)) (λ files set. article_in files set.entities (word c.args.words.now 3)) (λ set node. fitting 0 (filled_text set node))
-    c.in-Ok.set c.in-Err-load_article.fault c.stop_of-in-Err-load_article.result c.in-Ok.ensures.told _ c.stop_of-in-Err-load_article.ensures.stops
+    c.in-Ok.set c.in-Err-load_article.fault c.stop_of-in-Err-load_article.result c.in-Ok.ensures.told
+    (subst (λ (name : List ℕ). IfSome (g.S.Store.holds c.args.store.now) (λ files. Reads {T = Node} (article_in files c.in-Ok.set.entities name) (Err c.in-Err-load_article.fault))) named read) c.stop_of-in-Err-load_article.ensures.stops
 
 pub returns-in-Ok-filled-clause-told : goal.returns-in-Ok-filled-clause-told
 returns-in-Ok-filled-clause-told g c =
+    let four = four_words c.args.words.now c.requires in
+    let named = word_at c.args.words.now 3 c.index-words-3.result (omega arith) c.index-words-3.is in
+    let read = rw c.in-Ok.ensures.keeps at c.in-Ok-load_article.ensures.told in
     told_both (g.S.Store.holds c.args.store.now) (λ files. set_by files (set_words c.args.words.now 1)) (λ files set. article_in files set.entities (word c.args.words.now 3)) (λ set node. fitting 0 (filled_text set node))
-    c.in-Ok.set c.in-Ok-load_article.node c.in-Ok-filled.answer.status c.in-Ok-filled.answer.bytes.items c.in-Ok.ensures.told _ _
+    c.in-Ok.set c.in-Ok-load_article.node c.in-Ok-filled.answer.status c.in-Ok-filled.answer.bytes.items c.in-Ok.ensures.told
+    (subst (λ (name : List ℕ). IfSome (g.S.Store.holds c.args.store.now) (λ files. Reads {T = Node} (article_in files c.in-Ok.set.entities name) (Ok c.in-Ok-load_article.node))) named read) c.in-Ok-filled.ensures.fits
