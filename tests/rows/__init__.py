@@ -1,13 +1,13 @@
 """The table: rows by subject."""
 
-from . import (attributes, catalogs, comparison, contents, entities, expansion, faults, flat_texts,
-               forms, limits, modules, sections)
+from . import (articles, attributes, catalogs, comparison, contents, entities, expansion, faults, flat_texts,
+               forms, limits, modules, sections, validity)
 
 SUBJECTS = (entities, expansion, sections, modules, catalogs, forms, contents, attributes, faults,
-            limits, flat_texts, comparison)
+            limits, flat_texts, comparison, articles, validity)
 
 # These have rows that go to limits of many millions of characters, and take a second or more each.
-SLOW = (expansion, limits)
+SLOW = (expansion, limits, articles, validity)
 
 
 def table():

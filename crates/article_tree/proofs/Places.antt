@@ -5,7 +5,6 @@ use Rattle.std.specs.List.{starts_with}
 use Rattle.jats_chars.specs.Classes.{is_space}
 use Rattle.dtd_scanner.specs.Walk.{◌>>=◌, walk, over}
 use Rattle.jats_fault.specs.declared.fault.Fault.{Fault}
-use Rattle.jats_fault.specs.Table.{table, has_number}
 use Rattle.document_trees.specs.Trees.{Attribute, Items, Node}
 use Rattle.document_trees.specs.Trees as tree
 use Rattle.decl_set.specs.Declarations.{Entity}
@@ -17,7 +16,7 @@ use Rattle.article_tree.specs.Words.{Names, most_elements, repeated}
 use Rattle.article_tree.specs.Taking.{first_token}
 use Rattle.article_tree.specs.Stops.{Inner, Standing, place_in, standing_in, refused, malformed, stopped}
 use Rattle.article_tree.specs.Reading.{Open, State, values, unrepeated, ended, referred, done, by_token, content_step, closed_by, begun, content, Article, has_root, holding, misplaced, type_end, type_by, Stepping, outside, article_by, article_step, whole, unread, outermost, article_of}
-use Rattle.article_tree.specs.Faults.{IsWithin}
+use Rattle.article_tree.specs.Faults.{IsWithin, is_article_number}
 
 -- a fault, where there is one
 abbrev pub Faulty : {X : Type 0} → (Fault → Type 0) → Result X Fault → Type 0
@@ -67,7 +66,7 @@ place_grows c at end few = by c.inner
     by (Some inner) = omega arith
 
 module _ (c : Standing) (end at : ℕ) (few : at ≤ end) where
-  refused_within : (number : ℕ) (details : List (List ℕ)) → has_number table number ≡ true → Within c end (refused c at number details)
+  refused_within : (number : ℕ) (details : List (List ℕ)) → is_article_number number ≡ true → Within c end (refused c at number details)
   refused_within number details is = record { number = is; named = refl; within = place_grows c at end few }
 
   malformed_within : Within c end (malformed c at)

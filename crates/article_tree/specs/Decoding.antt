@@ -7,6 +7,7 @@ use Rattle.jats_fault.specs.declared.fault.Fault.{Fault}
 use Rattle.jats_fault.specs.Table.{table, has_number}
 use Rattle.document_trees.specs.Trees.{Node}
 use Rattle.decl_set.specs.Declarations.{Entity}
+use Rattle.article_tree.specs.Faults.{is_article_number}
 use Rattle.article_tree.specs.Outcomes.{Refuses}
 use Rattle.article_tree.specs.Reading.{article_of}
 use Rattle.article_tree.specs.declared.stops.ArticleFault.{ArticleFault}
@@ -37,8 +38,8 @@ abbrev pub StopsDecoding : List ℕ → DecodeFault → ArticleFault → Type 0
 StopsDecoding article decoding.NoMemory answer = answer ≡ NoMemory
 StopsDecoding article fault answer = Refuses (decode_stop article fault) answer
 
--- a refusal has a number of the table
+-- a refusal has a number of the table, which is one of an article
 abbrev pub HasRow : {X : Type 0} → Result X ArticleFault → Type 0
 HasRow (Ok x) = Unit {0}
-HasRow (Err (Refused refusal)) = IsTrue (has_number table refusal.number)
+HasRow (Err (Refused refusal)) = IsTrue (has_number table refusal.number) × IsTrue (is_article_number refusal.number)
 HasRow (Err NoMemory) = Unit {0}
