@@ -1,9 +1,9 @@
 """The table: rows by subject."""
 
 from . import (articles, attributes, catalogs, comparison, contents, entities, expansion, faults, flat_texts,
-               forms, limits, modules, sections, validity)
+               forms, limits, modules, sections, validity, waiting)
 
-SUBJECTS = (entities, expansion, sections, modules, catalogs, forms, contents, attributes, faults,
+SUBJECTS = (entities, expansion, waiting, sections, modules, catalogs, forms, contents, attributes, faults,
             limits, flat_texts, comparison, articles, validity)
 
 # These have rows that go to limits of many millions of characters, and take a second or more each.

@@ -5,20 +5,23 @@ use Rattle.dtd_scanner.specs.Walk.{◌>>=◌}
 use Rattle.entity_catalog.specs.Named.{Named}
 use Rattle.jats_fault.specs.declared.fault.Fault.{Fault}
 use Rattle.pe_expansion.specs.Bound.{Bound}
-use Rattle.pe_expansion.specs.Expansion.{Written}
+use Rattle.pe_expansion.specs.Expansion.{Written, expansion_of}
 use Rattle.pe_expansion.specs.Opening.{opening}
-use Rattle.pe_expansion.specs.Outcomes.{Expands, Fails}
+use Rattle.pe_expansion.specs.Outcomes.{Fails}
+use Rattle.pe_expansion.specs.Pausing.{IsPaused, Resumes}
+use Rattle.pe_expansion.proofs.Numbering.{paused_keeps}
+use Rattle.pe_expansion.proofs.Works.{fails_as}
 use Rattle.pe_expansion.specs.declared.faults.PeFault.{PeFault}
 use Rattle.pe_expansion.specs.declared.faults.PeFault.TheVariants as pe
 use Rattle.pe_expansion.specs.declared.openings.Opened.{Opened}
-use Rattle.pe_expansion.specs.declared.pieces.Manner.TheVariants as manner
-use Rattle.pe_expansion.proofs.Spending.{WantedBy, Wants, expansion_wants, opening_wants}
-use Rattle.module_reader.specs.Asking.{OpensIn, IsOpened, IsWanted, IsWritten, OpensOnce, Turns, WritesOnce, stopped, written}
-use Rattle.module_reader.specs.Moves.{Gives, Moves, counted}
+use Rattle.pe_expansion.specs.declared.pieces.Manner.{Manner}
+use Rattle.pe_expansion.specs.declared.pausing.PausedExpansion.{PausedExpansion}
+use Rattle.pe_expansion.specs.declared.pausing.Progress.TheVariants.{Done, Waits}
+use Rattle.pe_expansion.proofs.Spending.{WantedBy, Wants, expansion_wants, opening_wants, spent_rises}
+use Rattle.module_reader.specs.Asking.{OpensIn, IsOn, IsOpened, IsWanted, IsWritten, OpensOnce, Turns, WritesOnce, stopped, written}
+use Rattle.module_reader.specs.Moves.{Gives, LoadsOnly, Moves, counted}
 use Rattle.module_reader.specs.Sources.{Files, Source, asking, asking_most, heard}
 use Rattle.module_reader.specs.Stops.{refused}
-use Rattle.module_reader.specs.declared.asking.Form.{Form}
-use Rattle.module_reader.specs.declared.asking.Form.TheVariants.{Body, Literal}
 use Rattle.module_reader.specs.declared.refusals.Stop.{Stop}
 use Rattle.module_reader.specs.declared.refusals.Stop.TheVariants as fault
 use Rattle.module_reader.specs.declared.standing.Standing.{Standing}
@@ -37,14 +40,34 @@ pub fails_wanted : {X : Type 0} (bound : Bound) (said : Result X PeFault) (f : P
 fails_wanted bound said pe.NoMemory fails wants = tt
 fails_wanted bound said f fails wants = wanted_of bound said f fails wants
 
-written_wants : (form : Form) (bound : Bound) (names : List (List ℕ)) (spent : ℕ) (text : List ℕ) → Wants bound (written form bound names spent text)
-written_wants Body bound names spent text = expansion_wants manner.Body bound names spent text
-written_wants Literal bound names spent text = expansion_wants manner.Literal bound names spent text
+-- an expansion that goes on: an answer
+pub done_once : (manner : Manner) (names : List (List ℕ)) (old : State) (text : List ℕ) (e : PausedExpansion) (answer : List ℕ) (spent : ℕ) → IsOn manner names text old e → Resumes old.bound names text e (Ok (Done answer spent))
+    → WritesOnce (written manner old.bound names old.spent text) old (record old { spent = spent }) (Ok answer)
+done_once manner names old text e answer spent on done =
+    let said : expansion_of e.manner old.bound names e.first text ≡ Ok (record { text = answer; spent = spent }) = done in
+    let is : expansion_of manner old.bound names old.spent text ≡ Ok (record { text = answer; spent = spent }) = rw (on.how, on.first) at said in
+    (is, refl, spent_rises manner old.bound names old.spent text answer spent is)
 
-pub writes_once : (form : Form) (names : List (List ℕ)) (old : State) (spent : ℕ) (text : List ℕ) (r : Result (List ℕ) PeFault) → Expands (written form old.bound names old.spent text) old.spent spent r → old.spent ≤ spent
-    → WritesOnce (written form old.bound names old.spent text) old (record old { spent = spent }) r
-writes_once form names old spent text (Ok t) expands more = (expands, refl, more)
-writes_once form names old spent text (Err f) expands more = (expands.0, ap (λ n. record old { spent = n }) expands.1, fails_wanted old.bound _ f expands.0 (written_wants form old.bound names old.spent text))
+-- a fault
+pub stops_once : (manner : Manner) (names : List (List ℕ)) (old : State) (text : List ℕ) (e : PausedExpansion) (f : PeFault) → IsOn manner names text old e → Fails f (expansion_of e.manner old.bound names e.first text)
+    → WritesOnce (written manner old.bound names old.spent text) old old (Err f)
+stops_once manner names old text e f on fails =
+    let is : Fails f (expansion_of manner old.bound names old.spent text) = fails_as f (expansion_of e.manner old.bound names e.first text) (expansion_of manner old.bound names old.spent text) (λ said. rw (on.how, on.first) at said) fails in
+    (is, refl, fails_wanted old.bound _ f is (expansion_wants manner old.bound names old.spent text))
+
+-- a text that is wanted
+pub waits_once : (manner : Manner) (names : List (List ℕ)) (old : State) (text : List ℕ) (e rest : PausedExpansion) (name : List ℕ) → IsOn manner names text old e → Resumes old.bound names text e (Ok (Waits name rest))
+    → WritesOnce (written manner old.bound names old.spent text) old old (Err (pe.NotLoaded name)) × IsOn manner names text old rest
+waits_once manner names old text e rest name on waits =
+    (stops_once manner names old text e (pe.NotLoaded name) on waits.0, record { paused = waits.1; how = waits.2 ∙ on.how; first = waits.3 ∙ on.first })
+
+-- an expansion that begins
+pub on_fresh : (manner : Manner) (names : List (List ℕ)) (s : State) (text : List ℕ) (e : PausedExpansion) → ((bound : Bound) (chain : List (List ℕ)) (outer : List ℕ) → IsPaused bound chain outer e) → (e.manner ≡ manner) × (e.first ≡ s.spent) → IsOn manner names text s e
+on_fresh manner names s text e paused of = record { paused = paused s.bound names text; how = of.0; first = of.1 }
+
+-- a text was loaded
+pub on_loads : (manner : Manner) (names : List (List ℕ)) (old new : State) (text : List ℕ) (e : PausedExpansion) → LoadsOnly old new → IsOn manner names text old e → IsOn manner names text new e
+on_loads manner names old new text e loads on = record { paused = paused_keeps old.bound new.bound names text e loads.keeps on.paused; how = on.how; first = on.first ∙ sym loads.spent }
 
 pub opens_not : (names : List (List ℕ)) (s : State) (name : List ℕ) (f : PeFault) → Fails f (opening s.bound names s.spent name) → Fails f (opening s.bound names s.spent name) × (s ≡ s) × IsWanted s.bound f
 opens_not names s name f fails = (fails, refl, fails_wanted s.bound _ f fails (opening_wants s.bound names s.spent name))

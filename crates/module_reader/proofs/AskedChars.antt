@@ -6,21 +6,18 @@ use Rattle.decl_set.specs.Asked.{are_chars}
 use Rattle.pe_expansion.specs.Expansion.{Written}
 use Rattle.pe_expansion.specs.Opening.{opening}
 use Rattle.pe_expansion.specs.declared.openings.Opened.{Opened}
-use Rattle.pe_expansion.specs.declared.pieces.Manner.TheVariants as manner
+use Rattle.pe_expansion.specs.declared.pieces.Manner.{Manner}
 use Rattle.module_reader.specs.Asking.{IsOpened, IsWritten, written}
 use Rattle.module_reader.specs.Counting.{Counts}
 use Rattle.module_reader.specs.Moves.{AreChars, GoesOn, loaded_at}
-use Rattle.module_reader.specs.declared.asking.Form.{Form}
-use Rattle.module_reader.specs.declared.asking.Form.TheVariants.{Body, Literal}
 use Rattle.module_reader.specs.declared.state.State.{State}
 use Rattle.module_reader.proofs.Counted.{opening_counts}
 use Rattle.module_reader.proofs.ExpansionChars.{expansion_chars}
 
 -- a text of Chars stands for a text of Chars
-pub written_chars : (form : Form) (names : List (List ℕ)) (first s new : State) (text answer : List ℕ) → IsWritten (written form s.bound names s.spent text) s new answer → GoesOn first s
+pub written_chars : (manner : Manner) (names : List (List ℕ)) (first s new : State) (text answer : List ℕ) → IsWritten (written manner s.bound names s.spent text) s new answer → GoesOn first s
     → AreChars first → IsTrue (are_chars text) → IsTrue (are_chars answer)
-written_chars Body names first s new text answer is goes kept all = expansion_chars manner.Body s.bound names s.spent text (record { text = answer; spent = new.spent }) (goes.chars kept).bound all is.0
-written_chars Literal names first s new text answer is goes kept all = expansion_chars manner.Literal s.bound names s.spent text (record { text = answer; spent = new.spent }) (goes.chars kept).bound all is.0
+written_chars manner names first s new text answer is goes kept all = expansion_chars manner s.bound names s.spent text (record { text = answer; spent = new.spent }) (goes.chars kept).bound all is.0
 
 -- a text that opens is counted
 pub opened_counts : (names : List (List ℕ)) (first s new : State) (name : List ℕ) (opened : Opened) → IsOpened (opening s.bound names s.spent name) s new name opened → GoesOn first s → Counts names first.spent new opened.number

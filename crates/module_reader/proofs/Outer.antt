@@ -11,7 +11,7 @@ use Rattle.pe_expansion.specs.Bound.{IsOuter, text_bound, text_in}
 use Rattle.pe_expansion.specs.declared.bindings.PeText.{PeText}
 use Rattle.pe_expansion.specs.declared.bindings.PeText.TheVariants.{Inner, Outer}
 use Rattle.module_reader.specs.Loading.{IsModule, LoadsModule, NamesFile, giving}
-use Rattle.module_reader.specs.Moves.{AreChars, GoesOn, Moves}
+use Rattle.module_reader.specs.Moves.{AreChars, GoesOn, LoadsOnly, Moves}
 use Rattle.module_reader.specs.Endings.{LoadFailed, Refuses}
 use Rattle.module_reader.specs.Sources.{Files, Source, given, loaded, module_of, resolved, system_of}
 use Rattle.module_reader.specs.Stops.{refused}
@@ -19,6 +19,7 @@ use Rattle.module_reader.specs.declared.refusals.Stop.{Stop}
 use Rattle.module_reader.specs.declared.refusals.Stop.TheVariants as fault
 use Rattle.module_reader.specs.declared.standing.Standing.{Standing}
 use Rattle.module_reader.specs.declared.state.State.{State}
+use Rattle.pe_expansion.proofs.KeptTexts.{keeps_same, outer_keeps}
 use Rattle.module_reader.proofs.Going.{given_goes_on, goes_further, module_chars}
 
 names_refused : (source : Source) (outcome : Result State Fault) (s : State) (name : List ℕ) (said : Fault) (f : Stop) → outcome ≡ Err said → Refuses said f → NamesFile source outcome s name (Err f)
@@ -95,3 +96,11 @@ given_on s0 s name text none same of_chars on = goes_further s0 s (given name (s
 pub gives_on : (s0 s new : State) (file name : List ℕ) (number : ℕ) → option_and_then text_in (text_bound s0.bound name) ≡ None → s.bound ≡ s0.bound → IsModule s.modules number file → ((f t : List ℕ) → slice_get s.modules number ≡ Some (f, t) → new ≡ given name (s, t))
     → GoesOn s0 s → GoesOn s0 new
 gives_on s0 s new file name number none same is gives on = rw (gives file is.0 is.1) (given_on s0 s name is.0 none same (λ all. module_chars s.modules number file is.0 all.modules is.1) on)
+
+-- a text that is given takes none away
+pub gives_only : (s0 s new : State) (file name : List ℕ) (number : ℕ) → option_and_then text_in (text_bound s0.bound name) ≡ None → s.bound ≡ s0.bound → s.spent ≡ s0.spent → IsModule s.modules number file → ((f t : List ℕ) → slice_get s.modules number ≡ Some (f, t) → new ≡ given name (s, t))
+    → LoadsOnly s0 new
+gives_only s0 s new file name number none same spent is gives = rw (gives file is.0 is.1) (record { keeps = rw same (outer_keeps s0.bound name is.0 none); spent = spent })
+
+pub loads_nothing : (s : State) → LoadsOnly s s
+loads_nothing s = record { keeps = keeps_same s.bound; spent = refl }

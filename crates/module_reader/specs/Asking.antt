@@ -2,13 +2,14 @@
 use Rattle.std.specs.Prelude.{◌≡◌, ◌≤◌, ℕ, List, [], Option, Some, None, option_and_then, Result, Ok, Err}
 use Rattle.jats_fault.specs.declared.fault.Fault.{Fault}
 use Rattle.pe_expansion.specs.Bound.{Bound, text_bound, text_in}
-use Rattle.pe_expansion.specs.Expansion.{Written, literal_of, plain_body_of}
+use Rattle.pe_expansion.specs.Expansion.{Written, expansion_of}
 use Rattle.pe_expansion.specs.Outcomes.{Fails}
 use Rattle.pe_expansion.specs.declared.faults.PeFault.{PeFault}
 use Rattle.pe_expansion.specs.declared.faults.PeFault.TheVariants.{NotLoaded}
+use Rattle.pe_expansion.specs.Pausing.{IsPaused}
 use Rattle.pe_expansion.specs.declared.openings.Opened.{Opened}
-use Rattle.module_reader.specs.declared.asking.Form.{Form}
-use Rattle.module_reader.specs.declared.asking.Form.TheVariants.{Body, Literal}
+use Rattle.pe_expansion.specs.declared.pausing.PausedExpansion.{PausedExpansion}
+use Rattle.pe_expansion.specs.declared.pieces.Manner.{Manner}
 use Rattle.module_reader.specs.declared.refusals.Stop.{Stop}
 use Rattle.module_reader.specs.declared.refusals.Stop.TheVariants as fault
 use Rattle.module_reader.specs.declared.standing.Standing.{Standing}
@@ -17,10 +18,15 @@ use Rattle.module_reader.specs.Moves.{loaded_at}
 use Rattle.module_reader.specs.Sources.{Source, loaded}
 use Rattle.module_reader.specs.Stops.{pe_stop}
 
--- what a text of a form stands for, where these names are open and so many characters were included before
-abbrev pub written : Form → Bound → List (List ℕ) → ℕ → List ℕ → Result Written PeFault
-written Body bound names spent text = plain_body_of bound names spent text
-written Literal bound names spent text = literal_of bound names spent text
+-- what a text stands for, as a body or an entity value, where these names are open and so many characters were included before
+abbrev pub written : Manner → Bound → List (List ℕ) → ℕ → List ℕ → Result Written PeFault
+written manner bound names spent text = expansion_of manner bound names spent text
+
+-- the expansion of this text stopped, or is to begin, in this state
+pub record IsOn (manner : Manner) (names : List (List ℕ)) (text : List ℕ) (s : State) (e : PausedExpansion) : Type 0 where
+  pub paused : IsPaused s.bound names text e
+  pub how : e.manner ≡ manner
+  pub first : e.first ≡ s.spent
 
 -- a text is wanted only where there is none
 abbrev pub IsWanted : Bound → PeFault → Type 0

@@ -3,7 +3,7 @@ use Rattle.std.specs.Prelude.{◌≡◌, ◌≤◌, ℕ, Bool, true, List, Optio
 use Rattle.std.specs.List.{list_all}
 use Rattle.decl_set.specs.Asked.{are_chars}
 use Rattle.jats_fault.specs.declared.fault.Fault.{Fault}
-use Rattle.pe_expansion.specs.Bound.{Bound, text_in}
+use Rattle.pe_expansion.specs.Bound.{Bound, Keeps, text_in}
 use Rattle.pe_expansion.specs.Expansion.{Written}
 use Rattle.module_reader.specs.declared.refusals.Stop.{Stop}
 use Rattle.module_reader.specs.declared.refusals.Stop.TheVariants as fault
@@ -62,3 +62,8 @@ pub record GoesOn (old new : State) : Type 0 where
 abbrev pub StaysOfChars : {E : Type 0} → State → List ℕ → Result (List ℕ) E → Type 0
 StaysOfChars old text (Ok answer) = AreChars old → IsTrue (are_chars text) → IsTrue (are_chars answer)
 StaysOfChars old text (Err e) = Unit {0}
+
+-- loading takes no text of an entity away, and includes no character
+pub record LoadsOnly (old new : State) : Type 0 where
+  pub keeps : Keeps old.bound new.bound
+  pub spent : new.spent ≡ old.spent

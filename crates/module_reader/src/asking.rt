@@ -1,15 +1,14 @@
 //! What the bindings are asked, once the texts that are wanted are loaded.
 
-ghost use Rattle.std.specs.Prelude.{◌≡◌, ◌≤◌, Err, IfOk, IfSome, IsTrue, OnOk};
+ghost use Rattle.std.specs.Prelude.{◌≡◌, ◌≤◌, Err, IfNone, IfOk, IfSome, IsTrue, OnErr, OnOk};
 ghost use Rattle.jats_chars.specs.Names.{is_name};
 ghost use Rattle.jats_io.specs.Causes.{HasCause};
 ghost use Rattle.pe_expansion.specs.Opening as opening;
-ghost use Rattle.pe_expansion.specs.Outcomes.{Expands};
 ghost use Rattle.pe_expansion.specs.declared.faults.PeFault.TheVariants as pe;
 ghost use Rattle.module_reader.specs.declared.refusals.Stop.TheVariants as memory;
-ghost use Rattle.module_reader.specs.Asking.{HasText, IsOpened, IsWanted, IsWritten, OpensIn, OpensOnce, Turns, WritesOnce, stopped, written};
+ghost use Rattle.module_reader.specs.Asking.{HasText, IsOn, IsOpened, IsWanted, IsWritten, OpensIn, OpensOnce, Turns, WritesOnce, stopped, written};
 ghost use Rattle.module_reader.specs.Counting.{Counts};
-ghost use Rattle.module_reader.specs.Moves.{GoesOn, Gives, Moves, StaysOfChars, counted};
+ghost use Rattle.module_reader.specs.Moves.{GoesOn, Gives, LoadsOnly, Moves, StaysOfChars, counted};
 ghost use Rattle.module_reader.specs.Endings.{LoadFailed, IsAbsence};
 ghost use Rattle.module_reader.specs.Reading as reading;
 ghost use Rattle.module_reader.specs.Sources.{asking};
@@ -23,15 +22,9 @@ use entity_catalog::Catalog;
 use jats_chars::{NameList, Text};
 use jats_fault::{Details, numbers};
 use jats_io::Store;
-use pe_expansion::{Bindings, Budget, Opened, PeFault, literal_in, opening, plain_body_in};
+use pe_expansion::{Manner, Opened, PausedExpansion, PeFault, Progress, opening};
 use std::alloc::Global;
-
-/// What a text is: the body of a declaration, or an entity value.
-#[derive(Clone, Copy, Debug, PartialEq, Eq)]
-pub enum Form {
-    Body,
-    Literal,
-}
+use std::mem;
 
 /// What stopped a question: the text that is wanted is loaded, or the reading stops.
 fn want<S: Store>(
@@ -50,6 +43,7 @@ fn want<S: Store>(
     ensures memory { fault ≡ pe.NoMemory → result ≡ Err memory.NoMemory }
     ensures told { IfSome (S.holds store.old) (λ files. Moves (stopped (record { files = files; catalog = catalog.now }) standing.now at state.old fault) state.new result) }
     ensures goes_on { OnOk result (GoesOn state.old state.new) }
+    ensures loads { OnOk result (LoadsOnly state.old state.new) }
 {
     match fault {
         PeFault::NotLoaded(name) => {
@@ -59,37 +53,32 @@ fn want<S: Store>(
     }
 }
 
-fn written_by(
-    alloc: Global,
-    form: Form,
-    bound: &Bindings,
-    chain: &NameList,
-    text: &[char],
-    budget: &mut Budget,
-) -> Result<Text, PeFault>
-    ensures gives { Expands (written form bound.now chain.now budget.old.spent text.now) budget.old.spent budget.new.spent result }
-    ensures rises { budget.old.spent ≤ budget.new.spent }
-{
-    match form {
-        Form::Body => plain_body_in(alloc, bound, chain, text, budget),
-        Form::Literal => literal_in(alloc, bound, chain, text, budget),
-    }
-}
-
-/// What a text stands for, by the texts that are loaded.
+/// What a text stands for, by the texts that are loaded: its expansion goes on.
 fn write_once(
     alloc: Global,
-    form: Form,
+    manner: Manner,
     chain: &NameList,
     state: &mut State,
+    paused: &mut PausedExpansion,
     text: &[char],
 ) -> Result<Text, PeFault>
-    ensures { WritesOnce (written form state.old.bound chain.now state.old.spent text.now) state.old state.new result }
+    requires { IsOn manner chain.now text.now state.old paused.old }
+    ensures writes { WritesOnce (written manner state.old.bound chain.now state.old.spent text.now) state.old state.new result }
+    ensures on { OnErr result (IsOn manner chain.now text.now state.new paused.new) }
 {
-    let mut budget = Budget { spent: state.spent };
-    let result = written_by(alloc, form, &state.bound, chain, text, &mut budget);
-    state.spent = budget.spent;
-    result
+    let again = PausedExpansion::new(alloc, manner, state.spent);
+    let before = mem::replace(paused, again);
+    match before.resume(alloc, &state.bound, chain, text) {
+        Err(fault) => Err(fault),
+        Ok(Progress::Waits(name, rest)) => {
+            *paused = rest;
+            Err(PeFault::NotLoaded(name))
+        }
+        Ok(Progress::Done(text, spent)) => {
+            state.spent = spent;
+            Ok(text)
+        }
+    }
 }
 
 /// What a text stands for, or None where a text that is wanted was loaded.
@@ -101,17 +90,20 @@ fn write_turn<S: Store>(
     standing: &Standing,
     at: usize,
     state: &mut State,
-    form: Form,
+    manner: Manner,
+    paused: &mut PausedExpansion,
     text: &[char],
 ) -> Result<Option<Text>, Stop>
+    requires { IsOn manner chain.now text.now state.old paused.old }
     ensures keeps { S.holds store.new ≡ S.holds store.old }
     ensures faults { HasCause (S.faults store.old) (S.faults store.new) (LoadFailed result) }
     ensures absences { HasCause (S.absences store.old) (S.absences store.new) (IsAbsence result) }
-    ensures answer { IfOk result (λ o. IfSome o (λ t. IsWritten (written form state.old.bound chain.now state.old.spent text.now) state.old state.new t)) }
-    ensures told { IfSome (S.holds store.old) (λ files. Turns (record { files = files; catalog = catalog.now }) standing.now at (written form state.old.bound chain.now state.old.spent text.now) state.old state.new result) }
+    ensures answer { IfOk result (λ o. IfSome o (λ t. IsWritten (written manner state.old.bound chain.now state.old.spent text.now) state.old state.new t)) }
+    ensures told { IfSome (S.holds store.old) (λ files. Turns (record { files = files; catalog = catalog.now }) standing.now at (written manner state.old.bound chain.now state.old.spent text.now) state.old state.new result) }
     ensures goes_on { OnOk result (GoesOn state.old state.new) }
+    ensures on { IfOk result (λ o. IfNone o (IsOn manner chain.now text.now state.new paused.new)) }
 {
-    match write_once(alloc, form, chain, state, text) {
+    match write_once(alloc, manner, chain, state, paused, text) {
         Ok(text) => Ok(Some(text)),
         Err(fault) => match want(alloc, store, catalog, standing, at, state, fault) {
             Err(fault) => Err(fault),
@@ -129,20 +121,30 @@ fn write<S: Store>(
     standing: &Standing,
     at: usize,
     state: &mut State,
-    form: Form,
+    manner: Manner,
     text: &[char],
 ) -> Result<Text, Stop>
     ensures keeps { S.holds store.new ≡ S.holds store.old }
     ensures faults { HasCause (S.faults store.old) (S.faults store.new) (LoadFailed result) }
     ensures absences { HasCause (S.absences store.old) (S.absences store.new) (IsAbsence result) }
-    ensures told { IfSome (S.holds store.old) (λ files. Gives (counted (asking (record { files = files; catalog = catalog.now }) standing.now at (λ t. written form t.bound chain.now t.spent text.now) state.old)) state.new result) }
+    ensures told { IfSome (S.holds store.old) (λ files. Gives (counted (asking (record { files = files; catalog = catalog.now }) standing.now at (λ t. written manner t.bound chain.now t.spent text.now) state.old)) state.new result) }
     ensures goes_on { OnOk result (GoesOn state.old state.new) }
     ensures chars { StaysOfChars state.old text.now result }
 {
+    let mut paused = PausedExpansion::new(alloc, manner, state.spent);
     let mut left = state.bound.len();
     'questions: loop {
         match write_turn(
-            alloc, store, catalog, chain, standing, at, state, form, text,
+            alloc,
+            store,
+            catalog,
+            chain,
+            standing,
+            at,
+            state,
+            manner,
+            &mut paused,
+            text,
         ) {
             Err(fault) => return Err(fault),
             Ok(Some(text)) => return Ok(text),
@@ -229,7 +231,7 @@ pub fn expand_body<S: Store>(
         standing,
         at,
         state,
-        Form::Body,
+        Manner::Body,
         body,
     )
 }
@@ -261,7 +263,7 @@ pub fn expand_literal<S: Store>(
         standing,
         at,
         state,
-        Form::Literal,
+        Manner::Literal,
         quoted,
     )
 }

@@ -10,7 +10,7 @@ ghost use Rattle.jats_chars.specs.Decoded.{text_of};
 ghost use Rattle.jats_io.specs.Causes.{HasCause};
 ghost use Rattle.pe_expansion.specs.Bound.{IsOuter, text_bound, text_in};
 ghost use Rattle.module_reader.specs.Loading.{Adds, FindsModule, LoadsModule, IsModule, NamesFile, giving};
-ghost use Rattle.module_reader.specs.Moves.{GoesOn, Moves};
+ghost use Rattle.module_reader.specs.Moves.{GoesOn, LoadsOnly, Moves};
 ghost use Rattle.module_reader.specs.Endings.{LoadFailed, IsAbsence, Reads, Refuses};
 ghost use Rattle.module_reader.specs.Sources as spec;
 ghost use Rattle.module_reader.specs.Stops.{refused as refused_at};
@@ -183,6 +183,7 @@ pub fn load_module<S: Store>(
     ensures found { IfOk result (λ k. IsModule state.new.modules k name.now) }
     ensures within { IfOk result (λ k. k ≤ length state.old.modules) }
     ensures bound { OnOk result (state.new.bound ≡ state.old.bound) }
+    ensures spent { OnOk result (state.new.spent ≡ state.old.spent) }
     ensures goes_on { OnOk result (GoesOn state.old state.new) }
 {
     match state.modules.number_of(name) {
@@ -291,6 +292,7 @@ fn load_file<S: Store>(
     ensures absences { HasCause (S.absences store.old) (S.absences store.new) (IsAbsence result) }
     ensures told { IfSome (S.holds store.old) (λ files. (named : Named) → Moves (giving (record { files = files; catalog = named }) state.old file.now name.now) state.new result) }
     ensures goes_on { OnOk result (GoesOn state.old state.new) }
+    ensures loads { OnOk result (LoadsOnly state.old state.new) }
 {
     match load_module(alloc, store, state, file) {
         Err(fault) => Err(fault),
@@ -318,6 +320,7 @@ pub fn load_outer<S: Store>(
     ensures absences { HasCause (S.absences store.old) (S.absences store.new) (IsAbsence result) }
     ensures told { IfSome (S.holds store.old) (λ files. Moves (spec.loaded (record { files = files; catalog = catalog.now }) standing.now at state.old name.now) state.new result) }
     ensures goes_on { OnOk result (GoesOn state.old state.new) }
+    ensures loads { OnOk result (LoadsOnly state.old state.new) }
 {
     match file_wanted(alloc, catalog, standing, at, state, name) {
         Err(fault) => Err(fault),

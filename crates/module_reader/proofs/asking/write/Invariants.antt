@@ -1,5 +1,5 @@
 use Rattle.std.proofs.Common.{◌≡◌, ◌≤◌}
-use Rattle.module_reader.specs.Asking.{written}
+use Rattle.module_reader.specs.Asking.{IsOn, written}
 use Rattle.module_reader.specs.Moves.{GoesOn}
 use Rattle.module_reader.specs.declared.state.State.{State}
 use Rattle.module_reader.proofs.Asked.{LeftIn}
@@ -12,7 +12,8 @@ invariant-questions g l =
     × (g.S.Store.faults l.fn.store ≤ g.S.Store.faults l.store)
     × (g.S.Store.absences l.fn.store ≤ g.S.Store.absences l.store)
     × GoesOn l.fn.state l.state
-    × LeftIn (g.S.Store.holds l.fn.store) l.catalog l.standing l.at (λ (t : State). written l.form t.bound l.chain t.spent l.text) l.left l.fn.state l.state
+    × LeftIn (g.S.Store.holds l.fn.store) l.catalog l.standing l.at (λ (t : State). written l.manner t.bound l.chain t.spent l.text) l.left l.fn.state l.state
+    × IsOn l.manner l.chain l.text l.state l.paused
 
 abbrev pub decreases-questions : goal.decreases-questions
 decreases-questions g l = l.left

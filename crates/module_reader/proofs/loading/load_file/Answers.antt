@@ -1,4 +1,4 @@
-use Rattle.module_reader.proofs.Outer.{gives_on, moves_given, moves_unloaded}
+use Rattle.module_reader.proofs.Outer.{gives_on, gives_only, moves_given, moves_unloaded}
 use Rattle.module_reader.proofs.loading.load_file.Goals as goal
 
 pub returns-in-Err-clause-told : goal.returns-in-Err-clause-told
@@ -10,3 +10,7 @@ returns-in-Ok-give_text-clause-told g c = moves_given (g.S.Store.holds c.args.st
 pub returns-in-Ok-give_text-clause-goes_on : goal.returns-in-Ok-give_text-clause-goes_on
 returns-in-Ok-give_text-clause-goes_on g c =
     gives_on c.args.state.now c.load_module.new.state c.give_text.new.state c.args.file.now c.args.name.now c.in-Ok.number c.requires.wanted c.in-Ok.ensures.bound c.in-Ok.ensures.found c.in-Ok-give_text.ensures c.in-Ok.ensures.goes_on
+
+pub returns-in-Ok-give_text-clause-loads : goal.returns-in-Ok-give_text-clause-loads
+returns-in-Ok-give_text-clause-loads g c =
+    gives_only c.args.state.now c.load_module.new.state c.give_text.new.state c.args.file.now c.args.name.now c.in-Ok.number c.requires.wanted c.in-Ok.ensures.bound c.in-Ok.ensures.spent c.in-Ok.ensures.found c.in-Ok-give_text.ensures

@@ -1,4 +1,4 @@
-use Rattle.module_reader.proofs.Outer.{moves_file, moves_named, moves_unnamed, names_outer}
+use Rattle.module_reader.proofs.Outer.{loads_nothing, moves_file, moves_named, moves_unnamed, names_outer}
 use Rattle.module_reader.proofs.loading.load_outer.Goals as goal
 
 pub load_file-requires-clause-outer : goal.load_file-requires-clause-outer
@@ -12,3 +12,6 @@ returns-in-Ok-None-clause-told g c = moves_unnamed (g.S.Store.holds c.args.store
 
 pub returns-in-Ok-Some-clause-told : goal.returns-in-Ok-Some-clause-told
 returns-in-Ok-Some-clause-told g c = moves_file (g.S.Store.holds c.args.store.now) c.args.catalog.now c.args.standing.now c.args.at c.args.state.now c.load_file.new.state c.args.name.now c.in-Ok-Some.file c.load_file.result c.in-Ok-Some.field-0 c.in-Ok-Some.field-0-is c.in-Ok-Some.ensures.told c.load_file.ensures.told
+
+pub returns-in-Ok-None-clause-loads : goal.returns-in-Ok-None-clause-loads
+returns-in-Ok-None-clause-loads g c = loads_nothing c.args.state.now
