@@ -1,13 +1,13 @@
 """The table: rows by subject."""
 
-from . import (articles, attributes, catalogs, comparison, contents, entities, expansion, faults, flat_texts,
-               forms, limits, modules, sections, validity, waiting)
+from . import (attributes, catalogs, comparison, contents, entities, expansion, faults, flat_texts,
+               forms, limits, modules, sections, waiting)
 
 SUBJECTS = (entities, expansion, waiting, sections, modules, catalogs, forms, contents, attributes, faults,
-            limits, flat_texts, comparison, articles, validity)
+            limits, flat_texts, comparison)
 
 # These have rows that go to limits of many millions of characters, and take a second or more each.
-SLOW = (expansion, limits, articles, validity)
+SLOW = (expansion, limits)
 
 
 def table():

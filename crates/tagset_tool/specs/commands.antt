@@ -1,5 +1,3 @@
 pub mod Check
 pub mod Compare
-pub mod Fill
 pub mod Flatten
-pub mod Validate

@@ -2,6 +2,4 @@
 
 pub mod check;
 pub mod compare;
-pub mod fill;
 pub mod flatten;
-pub mod validate;

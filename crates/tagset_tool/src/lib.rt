@@ -17,7 +17,6 @@ mod name_set;
 mod plain_sets;
 mod refusals;
 mod rows;
-mod shown;
 mod sound;
 mod top;
 mod words;
