@@ -1,4 +1,4 @@
-"""The table: rows by subject."""
+"""The table: rows by subject. Those of `articles` and `validity` wait for the commands that they are about."""
 
 from . import (attributes, catalogs, comparison, contents, entities, expansion, faults, flat_texts,
                forms, limits, modules, sections, waiting)
