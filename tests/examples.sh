@@ -30,6 +30,19 @@ expect 0 "$(cat $house/flat.dtd)" flatten - $house/flat.dtd
 expect 0 $'subset\ndocuments some' compare $house/catalog.txt $house/phrases.dtd - $house/base-phrases.dtd title 0
 expect 1 $'not subset\nabove 0\nbroken title content' compare - $house/base-phrases.dtd $house/catalog.txt $house/phrases.dtd title 0
 expect 2 'refused E19 FormUnbuilt - 0' compare - $house/base.dtd - $house/base.dtd article 0
+of_house=($house/catalog.txt $house/house.dtd)
+expect 0 'valid' validate "${of_house[@]}" article $house/valid.xml
+expect 1 'invalid 4 journal-id missing type
+invalid 5 title content
+invalid 9 abstract content
+invalid 9 abstract text
+invalid 12 graphic value format
+invalid 13 fig content
+invalid 13 fig id id f1
+invalid 15 caption undeclared
+invalid 18 reference idref see r2' validate "${of_house[@]}" article $house/faulty.xml
+expect 0 "$(cat $house/filled.xml)" fill "${of_house[@]}" $house/valid.xml
+expect 2 'refused E10 ModuleAbsent no.xml 0' fill "${of_house[@]}" no.xml
 ./tagset compare - examples/first.dtd - examples/second.dtd r 0 > /dev/full 2>/dev/null
 if [ $? -eq 5 ]; then passed=$((passed + 1)); else failed=$((failed + 1)); echo "failed: a full device is not status 5"; fi
 echo "$passed passed, $failed failed"

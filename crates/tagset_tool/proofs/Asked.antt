@@ -5,7 +5,7 @@ use Rattle.std.proofs.lemmas.List.{get_or_default}
 use Rattle.std.proofs.lemmas.Bool.{and_parts, eqb-true}
 use Rattle.jats_fault.specs.declared.fault.Fault.{Fault}
 use Rattle.decl_set.specs.Declarations.{Declarations}
-use Rattle.module_reader.specs.Outcomes.{Reads}
+use Rattle.module_reader.specs.Outcomes.{IsAbsence, Reads}
 use Rattle.dtd_scanner.specs.Walk.{◌>>=◌}
 use Rattle.entity_catalog.specs.Named.{Named}
 use Rattle.module_reader.specs.Sets.{catalog_from, set_from, set_of}
@@ -17,7 +17,7 @@ use Rattle.tagset_tool.specs.declared.answer.Stop.{Stop}
 use Rattle.tagset_tool.specs.declared.answer.Stop.TheVariants as stop
 use Rattle.tagset_tool.specs.Outcomes.{Outcome, after}
 use Rattle.tagset_tool.specs.Runs.{StopsAs}
-use Rattle.tagset_tool.specs.Words.{SetWords, word, set_by, is_compare}
+use Rattle.tagset_tool.specs.Words.{SetWords, word, set_by, is_compare, is_fill, is_validate}
 use Rattle.tagset_tool.specs.commands.Compare.{compares, over_sets}
 
 -- what a place of the words has
@@ -27,6 +27,13 @@ word_at words i x within is = is ∙ get_or_default words i x [] within
 -- words of a comparison are seven
 pub seven_words : (words : List (List ℕ)) → is_compare words ≡ true → length words ≡ 7
 seven_words words t = eqb-true (length words) 7 (and_parts (length words == 7) (bytes_eq (word words 0) (codes "compare") && bytes_eq (word words 6) (codes "0")) t).0
+
+-- those of `validate` are five, and those of `fill` four
+pub five_words : (words : List (List ℕ)) → is_validate words ≡ true → length words ≡ 5
+five_words words t = eqb-true (length words) 5 (and_parts (length words == 5) (bytes_eq (word words 0) (codes "validate")) t).0
+
+pub four_words : (words : List (List ℕ)) → is_fill words ≡ true → length words ≡ 4
+four_words words t = eqb-true (length words) 4 (and_parts (length words == 4) (bytes_eq (word words 0) (codes "fill")) t).0
 
 -- an answer over two sets that were read is the output
 pub told_compared : (holds : Option Files) (one other : SetWords) (root a : List ℕ) (p q : Declarations) (status : ℕ) (bytes : List ℕ) → a ≡ root → IfSome holds (λ files. Reads (set_by files one) (Ok p)) → IfSome holds (λ files. Reads (set_by files other) (Ok q))
@@ -59,6 +66,28 @@ pub told_stopped_second : {X Y : Type 0} → (holds : Option Files) (read : File
 told_stopped_second None read other next first fault result read_first reads stops = tt
 told_stopped_second (Some files) read other next first fault result read_first reads stops =
     subst (λ r. IfOk result (λ a. after r (λ x. after (other files) (next files x)) a.status a.bytes.items)) (sym read_first) (stopped_by (other files) (next files first) fault result reads stops)
+
+-- what is answered over two things that were read, the second by the first
+pub told_both : {X Y : Type 0} → (holds : Option Files) (read : Files → Result X Fault) (other : Files → X → Result Y Fault) (next : X → Y → Outcome) (x : X) (y : Y) (status : ℕ) (bytes : List ℕ)
+    → IfSome holds (λ files. Reads (read files) (Ok x)) → IfSome holds (λ files. Reads (other files x) (Ok y)) → next x y status bytes
+    → IfSome holds (λ files. after (read files) (λ x. after (other files x) (next x)) status bytes)
+told_both None read other next x y status bytes first second over = tt
+told_both (Some files) read other next x y status bytes first second over =
+    subst (λ r. after r (λ x. after (other files x) (next x)) status bytes) (sym first) (subst (λ r. after r (next x) status bytes) (sym second) over)
+
+-- and where the second is not read
+pub told_stopped_then : {X Y : Type 0} → (holds : Option Files) (read : Files → Result X Fault) (other : Files → X → Result Y Fault) (next : X → Y → Outcome) (x : X) (fault : ReadFault) (result : Result Answer Stop)
+    → IfSome holds (λ files. Reads (read files) (Ok x)) → IfSome holds (λ files. Reads (other files x) (Err fault)) → StopsAs fault result
+    → IfSome holds (λ files. IfOk result (λ a. after (read files) (λ x. after (other files x) (next x)) a.status a.bytes.items))
+told_stopped_then None read other next x fault result first reads stops = tt
+told_stopped_then (Some files) read other next x fault result first reads stops =
+    subst (λ r. IfOk result (λ a. after r (λ x. after (other files x) (next x)) a.status a.bytes.items)) (sym first) (stopped_by (other files x) (next x) fault result reads stops)
+
+-- a refusal is that of an absent file, whatever was to be read
+pub absence_of : {X Y : Type 0} → (fault : ReadFault) → IsAbsence {T = X} (Err fault) → IsAbsence {T = Y} (Err fault)
+absence_of (reading.Refused refusal) is = is
+absence_of reading.LoadFailed is = is
+absence_of reading.NoMemory is = is
 
 -- a catalog that was read, and a set that was read with it
 pub told_read : (holds now : Option Files) (catalog : Option (List ℕ)) (entry : List ℕ) (named : Named) (result : Result Declarations ReadFault) → now ≡ holds → IfSome holds (λ files. Reads (catalog_from files catalog) (Ok named))

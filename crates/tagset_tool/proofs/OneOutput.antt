@@ -15,7 +15,12 @@ use Rattle.tagset_tool.specs.Counts.{count_lines}
 use Rattle.tagset_tool.specs.Outcomes.{IsUnique, after, answering, fitting}
 use Rattle.tagset_tool.specs.Output.{IsOutput, outcome_of, usage_line}
 use Rattle.tagset_tool.specs.Refusals.{form_unbuilt, root_undeclared}
-use Rattle.tagset_tool.specs.Words.{Asked, SetWords, check, flatten, compare, asked, set_by}
+use Rattle.tagset_tool.specs.Words.{Asked, SetWords, check, flatten, validate, fill, compare, asked, set_by}
+use Rattle.article_files.specs.Bytes.{article_in}
+use Rattle.article_validator.specs.Faults.{fault_list}
+use Rattle.article_validator.specs.declared.fault.Invalid.{Invalid}
+use Rattle.tagset_tool.specs.commands.Fill.{fills, filled_text}
+use Rattle.tagset_tool.specs.commands.Validate.{validates, judged, valid_line, fault_lines}
 use Rattle.tagset_tool.specs.commands.Compare.{compares, from_root, over_plain, over_sets, root_in, verdict_status, verdict_lines}
 use Rattle.tagset_tool.proofs.Outcomes.{after_unique, answering_unique, fitting_unique, refusing_unique}
 use Rattle.decl_set.specs.declared.breaks.Cause.TheVariants as cause
@@ -84,11 +89,27 @@ compares_unique files one other root =
     after_unique (set_by files one) (λ first. after (set_by files other) (λ second. over_sets first second root))
     (λ first. after_unique (set_by files other) (λ second. over_sets first second root) (λ second. plain_unique first second root (is_plain_set first && is_plain_set second)))
 
+judged_unique : (faults : List Invalid) → IsUnique (judged faults)
+judged_unique [] = answering_unique 0 valid_line
+judged_unique (fault ∷ faults) = fitting_unique 1 (fault_lines (fault ∷ faults))
+
+validates_unique : (files : Files) (words : SetWords) (root article : List ℕ) → IsUnique (validates files words root article)
+validates_unique files words root article =
+    after_unique (set_by files words) (λ set. after (article_in files set.entities article) (λ node. judged (fault_list set root node)))
+    (λ set. after_unique (article_in files set.entities article) (λ node. judged (fault_list set root node)) (λ node. judged_unique (fault_list set root node)))
+
+fills_unique : (files : Files) (words : SetWords) (article : List ℕ) → IsUnique (fills files words article)
+fills_unique files words article =
+    after_unique (set_by files words) (λ set. after (article_in files set.entities article) (λ node. fitting 0 (filled_text set node)))
+    (λ set. after_unique (article_in files set.entities article) (λ node. fitting 0 (filled_text set node)) (λ node. fitting_unique 0 (filled_text set node)))
+
 outcome_unique : (o : Option Asked) (files : Files) → IsUnique (outcome_of o files)
 outcome_unique None files = answering_unique 3 usage_line
 outcome_unique (Some (check words)) files = after_unique (set_by files words) (λ set. answering 0 (count_lines set)) (λ set. answering_unique 0 (count_lines set))
 outcome_unique (Some (flatten words)) files =
     after_unique (set_by files words) (λ set. fitting 0 (encode_utf8_all (flat_text set))) (λ set. fitting_unique 0 (encode_utf8_all (flat_text set)))
+outcome_unique (Some (validate words root article)) files = validates_unique files words root article
+outcome_unique (Some (fill words article)) files = fills_unique files words article
 outcome_unique (Some (compare first second root)) files = compares_unique files first second root
 
 pub one_output : (words : List (List ℕ)) (files : Files) → IsUnique (IsOutput words files)

@@ -8,6 +8,12 @@ use Rattle.jats_fault.specs.Lines.{line_of}
 use Rattle.content_models.specs.declared.content.Content.{Content}
 use Rattle.decl_set.specs.Declarations.{Declarations, AttributesOf}
 use Rattle.dtd_flattener.specs.Flat.{Line, written, lines_of, flat_text, list_lines}
+use Rattle.document_trees.specs.Trees.{Node}
+use Rattle.article_tree.specs.Writing.{write}
+use Rattle.article_validator.specs.Filling.{filled}
+use Rattle.article_validator.specs.declared.fault.Invalid.{Invalid}
+use Rattle.tagset_tool.specs.commands.Fill.{filled_text}
+use Rattle.tagset_tool.specs.commands.Validate.{judged, fault_lines, valid_line}
 use Rattle.tagset_tool.specs.declared.comparison.Verdict.{Verdict}
 use Rattle.tagset_tool.specs.declared.comparison.Verdict.TheVariants.{Subset, Above}
 use Rattle.tagset_tool.specs.Counts.{count_lines}
@@ -46,6 +52,15 @@ angle_present (c ∷ rest) angle t =
     let off : IsTrue false = subst P (ap encode is ∙ encode_ascii 60 (lit< tt)) t in
     cc
 
+-- nor with bytes behind it
+angle_more : (text : List ℕ) (more : List ℕ) → take 1 text ≡ 60 ∷ [] → IsPresent (encode_utf8_all text ++ more)
+angle_more [] more angle t = cc
+angle_more (c ∷ rest) more angle t =
+    let is : c ≡ 60 = cc in
+    let P : List ℕ → Type 0 = λ front. IsTrue (is_absence ((front ++ encode_utf8_all rest) ++ more)) in
+    let off : IsTrue false = subst P (ap encode is ∙ encode_ascii 60 (lit< tt)) t in
+    cc
+
 -- the text of these lines does not begin so
 abbrev Begins : List Line → Type 0
 Begins lines = IsPresent (encode_utf8_all (concat (map written lines)))
@@ -67,9 +82,9 @@ flat_begins set =
     (lines_begin _ set.entities _ (λ e more. refl)
     (lines_begin _ set.elements _ (λ e more. refl) (lists_begin set.lists)))
 
-size_present : (long : Bool) (text : List ℕ) (status : ℕ) (bytes : List ℕ) → IsPresent text → fitting_by long 0 text status bytes → IsPresent bytes
-size_present true text status bytes there over = same_present bytes (line_of output_over) over.1 over_present
-size_present false text status bytes there over = same_present bytes text over.1 there
+size_present : (long : Bool) (wanted : ℕ) (text : List ℕ) (status : ℕ) (bytes : List ℕ) → IsPresent text → fitting_by long wanted text status bytes → IsPresent bytes
+size_present true wanted text status bytes there over = same_present bytes (line_of output_over) over.1 over_present
+size_present false wanted text status bytes there over = same_present bytes text over.1 there
 
 -- ---- answers
 
@@ -83,7 +98,18 @@ counts_present set status bytes answers = same_present bytes (count_lines set) a
 
 -- nor is a flat text
 pub flat_present : (set : Declarations) (status : ℕ) (bytes : List ℕ) → fitting 0 (encode_utf8_all (flat_text set)) status bytes → IsPresent bytes
-flat_present set status bytes over = size_present (nat_lt most_written (length (encode_utf8_all (flat_text set)))) (encode_utf8_all (flat_text set)) status bytes (flat_begins set) over
+flat_present set status bytes over = size_present (nat_lt most_written (length (encode_utf8_all (flat_text set)))) 0 (encode_utf8_all (flat_text set)) status bytes (flat_begins set) over
+
+-- nor is what is said of an article
+pub judged_present : (faults : List Invalid) (status : ℕ) (bytes : List ℕ) → judged faults status bytes → IsPresent bytes
+judged_present [] status bytes over = same_present bytes valid_line over.1 (λ t. let off : IsTrue false = t in cc)
+judged_present (fault ∷ faults) status bytes over =
+    size_present (nat_lt most_written (length (fault_lines (fault ∷ faults)))) 1 (fault_lines (fault ∷ faults)) status bytes (λ t. let off : IsTrue false = t in cc) over
+
+-- nor is an article
+pub filled_present : (set : Declarations) (node : Node) (status : ℕ) (bytes : List ℕ) → fitting 0 (filled_text set node) status bytes → IsPresent bytes
+filled_present set node status bytes over =
+    size_present (nat_lt most_written (length (filled_text set node))) 0 (filled_text set node) status bytes (angle_more (write (filled set node)) (10 ∷ []) refl) over
 
 verdict_present : (v : Verdict) → IsPresent (verdict_lines v)
 verdict_present Subset t = let off : IsTrue false = t in cc

@@ -2,10 +2,12 @@
 use Rattle.std.specs.Prelude.{ℕ, List, [], ◌∷◌, ◌++◌, Option, Some, None, codes}
 use Rattle.module_reader.specs.Sources.{Files}
 use Rattle.tagset_tool.specs.Outcomes.{Outcome, answering}
-use Rattle.tagset_tool.specs.Words.{Asked, check, flatten, compare, asked}
+use Rattle.tagset_tool.specs.Words.{Asked, check, flatten, validate, fill, compare, asked}
 use Rattle.tagset_tool.specs.commands.Check.{checks}
 use Rattle.tagset_tool.specs.commands.Compare.{compares}
+use Rattle.tagset_tool.specs.commands.Fill.{fills}
 use Rattle.tagset_tool.specs.commands.Flatten.{flattens}
+use Rattle.tagset_tool.specs.commands.Validate.{validates}
 
 -- the line for words of no form
 abbrev pub usage_line : List ℕ
@@ -15,6 +17,8 @@ abbrev pub outcome_of : Option Asked → Files → Outcome
 outcome_of None files = answering 3 usage_line
 outcome_of (Some (check words)) files = checks files words
 outcome_of (Some (flatten words)) files = flattens files words
+outcome_of (Some (validate words root article)) files = validates files words root article
+outcome_of (Some (fill words article)) files = fills files words article
 outcome_of (Some (compare first second root)) files = compares files first second root
 
 -- this status and these bytes are the output for these words, over these files

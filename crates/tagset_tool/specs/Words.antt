@@ -14,6 +14,8 @@ pub record SetWords : Type 0 where
 pub data Asked : Type 0 where
   check : SetWords → Asked
   flatten : SetWords → Asked
+  validate : SetWords → (root article : List ℕ) → Asked
+  fill : SetWords → (article : List ℕ) → Asked
   compare : (first second : SetWords) (root : List ℕ) → Asked
 
 abbrev pub word : List (List ℕ) → ℕ → List ℕ
@@ -35,6 +37,14 @@ is_check words = length words == 3 && bytes_eq (word words 0) (codes "check")
 abbrev pub is_flatten : List (List ℕ) → Bool
 is_flatten words = length words == 3 && bytes_eq (word words 0) (codes "flatten")
 
+-- validate CATALOG ENTRY ROOT ARTICLE
+abbrev pub is_validate : List (List ℕ) → Bool
+is_validate words = length words == 5 && bytes_eq (word words 0) (codes "validate")
+
+-- fill CATALOG ENTRY ARTICLE
+abbrev pub is_fill : List (List ℕ) → Bool
+is_fill words = length words == 4 && bytes_eq (word words 0) (codes "fill")
+
 -- compare CATALOG1 FIRST CATALOG2 SECOND ROOT 0
 abbrev pub is_compare : List (List ℕ) → Bool
 is_compare words = length words == 7 && (bytes_eq (word words 0) (codes "compare") && bytes_eq (word words 6) (codes "0"))
@@ -43,6 +53,8 @@ abbrev pub asked : List (List ℕ) → Option Asked
 asked words =
     if is_check words then Some (check (set_words words 1))
     else if is_flatten words then Some (flatten (set_words words 1))
+    else if is_validate words then Some (validate (set_words words 1) (word words 3) (word words 4))
+    else if is_fill words then Some (fill (set_words words 1) (word words 3))
     else if is_compare words then Some (compare (set_words words 1) (set_words words 3) (word words 5))
     else None
 

@@ -1,3 +1,5 @@
 pub mod Check
 pub mod Compare
+pub mod Fill
 pub mod Flatten
+pub mod Validate

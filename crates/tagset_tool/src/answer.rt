@@ -4,9 +4,11 @@ ghost use Rattle.std.specs.Prelude.{◌<◌, ◌≤◌, ◌^◌, Err, IfOk, IsTr
 ghost use Rattle.decl_set.specs.Declarations.{Declarations};
 ghost use Rattle.jats_fault.specs.Table.{table, has_number};
 ghost use Rattle.module_reader.specs.Outcomes.{IsAbsence, StandsInTable};
+ghost use Rattle.tagset_tool.specs.Outcomes as outcome;
 ghost use Rattle.tagset_tool.specs.Outcomes.{refusing};
 ghost use Rattle.tagset_tool.specs.Runs.{AnswersAbsence, Says, StopsAs};
 
+use crate::refusals::output_over;
 use jats_chars::NoMemory;
 use jats_fault::{Fault, line};
 use module_reader::ReadFault;
@@ -41,7 +43,21 @@ pub fn refused(alloc: Global, refusal: &Fault) -> Result<Answer, NoMemory>
     Ok(Answer { status: 2, bytes })
 }
 
-/// The answer where a set is not read.
+/// These bytes with this status, unless they are too long.
+pub fn fitting(alloc: Global, status: u8, bytes: Vec<u8>) -> Result<Answer, NoMemory>
+    requires { status ≤ 1 }
+    ensures fits { IfOk result (λ a. outcome.fitting status bytes.items a.status a.bytes.items) }
+    ensures says { IfOk result (λ a. Says a.status a.bytes.items) }
+{
+    if bytes.len() as u64 > MOST_WRITTEN {
+        let refusal = output_over(alloc)?;
+        refused(alloc, &refusal)
+    } else {
+        Ok(Answer { status, bytes })
+    }
+}
+
+/// The answer where something is not read.
 pub fn stop_of(alloc: Global, fault: &ReadFault) -> Result<Answer, Stop>
     requires { StandsInTable fault.now }
     ensures stops { StopsAs fault.now result }

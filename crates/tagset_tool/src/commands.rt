@@ -2,4 +2,6 @@
 
 pub mod check;
 pub mod compare;
+pub mod fill;
 pub mod flatten;
+pub mod validate;

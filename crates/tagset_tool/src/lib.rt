@@ -17,6 +17,7 @@ mod name_set;
 mod plain_sets;
 mod refusals;
 mod rows;
+mod shown;
 mod sound;
 mod top;
 mod words;

@@ -9,8 +9,10 @@ ghost use Rattle.tagset_tool.specs.Words.{asked};
 use crate::answer::{Answer, Stop};
 use crate::commands::check::check_words;
 use crate::commands::compare::compare_words;
+use crate::commands::fill::fill_words;
 use crate::commands::flatten::flatten_words;
-use crate::words::{is_check, is_compare, is_flatten};
+use crate::commands::validate::validate_words;
+use crate::words::{is_check, is_compare, is_fill, is_flatten, is_validate};
 use jats_chars::Text;
 use jats_io::{Sink, Store, write_all};
 use std::alloc::Global;
@@ -39,6 +41,10 @@ fn answer_to<S: Store>(alloc: Global, words: &[Text], store: &mut S) -> Result<A
         check_words(alloc, words, store)
     } else if is_flatten(words) {
         flatten_words(alloc, words, store)
+    } else if is_validate(words) {
+        validate_words(alloc, words, store)
+    } else if is_fill(words) {
+        fill_words(alloc, words, store)
     } else if is_compare(words) {
         compare_words(alloc, words, store)
     } else {

@@ -33,6 +33,20 @@ pub fn is_flatten(words: &[Text]) -> bool
     words.len() == 3 && is_word(&words[0], &['f', 'l', 'a', 't', 't', 'e', 'n'])
 }
 
+/// Whether the words ask whether an article is valid.
+pub fn is_validate(words: &[Text]) -> bool
+    ensures { result ≡ spec.is_validate words.now }
+{
+    words.len() == 5 && is_word(&words[0], &['v', 'a', 'l', 'i', 'd', 'a', 't', 'e'])
+}
+
+/// Whether the words ask for an article with its defaults.
+pub fn is_fill(words: &[Text]) -> bool
+    ensures { result ≡ spec.is_fill words.now }
+{
+    words.len() == 4 && is_word(&words[0], &['f', 'i', 'l', 'l'])
+}
+
 /// Whether the words have the form of a comparison.
 pub fn is_compare(words: &[Text]) -> bool
     ensures { result ≡ spec.is_compare words.now }

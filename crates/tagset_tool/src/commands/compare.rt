@@ -1,6 +1,6 @@
 //! `compare`: whether each document of the first set is one of the second.
 
-ghost use Rattle.std.specs.Prelude.{◌≡◌, ◌≤◌, ◌&&◌, IsSome, IsTrue, MatchOption, None, IfOk, IfSome, string_bytes, encode_utf8_all};
+ghost use Rattle.std.specs.Prelude.{◌≡◌, ◌≤◌, ◌&&◌, IsSome, IsTrue, MatchOption, None, IfOk, IfSome, string_bytes};
 ghost use Rattle.decl_set.specs.Declarations.{content_in};
 ghost use Rattle.jats_io.specs.Causes.{HasCause};
 ghost use Rattle.tagset_tool.specs.Plain.{IsPlain, is_plain_set};
@@ -12,6 +12,7 @@ use crate::answer::{Answer, Stop, refused, stop_of};
 use crate::comparison::{Verdict, compare};
 use crate::plain_sets::is_plain;
 use crate::refusals::{form_unbuilt, root_undeclared};
+use crate::shown::shown;
 use crate::words::read_words;
 use decl_set::{BrokenDecl, Cause, DeclSet};
 use jats_chars::{Name, NoMemory, Text};
@@ -32,14 +33,6 @@ fn cause_name(alloc: Global, cause: &Cause) -> Result<String, NoMemory>
         }
     };
     Ok(word)
-}
-
-/// The text in UTF-8.
-fn shown(alloc: Global, text: &Text) -> Result<String, NoMemory>
-    ensures { IfOk result (λ s. string_bytes s ≡ encode_utf8_all text.now) }
-{
-    let s: String = text.as_slice().iter().copied().collect(alloc)?;
-    Ok(s)
 }
 
 fn above_lines(alloc: Global, broken: &BrokenDecl) -> Result<Vec<u8>, NoMemory>
