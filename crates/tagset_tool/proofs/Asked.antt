@@ -84,10 +84,10 @@ told_stopped_then (Some files) read other next x fault result first reads stops 
     subst (λ r. IfOk result (λ a. after r (λ x. after (other files x) (next x)) a.status a.bytes.items)) (sym first) (stopped_by (other files x) (next x) fault result reads stops)
 
 -- a refusal is that of an absent file, whatever was to be read
-pub absence_of : {X Y : Type 0} → (fault : ReadFault) → IsAbsence {T = X} (Err fault) → IsAbsence {T = Y} (Err fault)
-absence_of (reading.Refused refusal) is = is
-absence_of reading.LoadFailed is = is
-absence_of reading.NoMemory is = is
+pub absence_of : (X Y : Type 0) (fault : ReadFault) → IsAbsence {T = X} (Err fault) → IsAbsence {T = Y} (Err fault)
+absence_of X Y (reading.Refused refusal) is = is
+absence_of X Y reading.LoadFailed is = is
+absence_of X Y reading.NoMemory is = is
 
 -- a catalog that was read, and a set that was read with it
 pub told_read : (holds now : Option Files) (catalog : Option (List ℕ)) (entry : List ℕ) (named : Named) (result : Result Declarations ReadFault) → now ≡ holds → IfSome holds (λ files. Reads (catalog_from files catalog) (Ok named))

@@ -13,5 +13,9 @@ use Rattle.tagset_tool.specs.Words.{SetWords, set_by}
 abbrev pub filled_text : Declarations → Node → List ℕ
 filled_text set node = encode_utf8_all (write (filled set node)) ++ 10 ∷ []
 
+-- over a set
+abbrev pub fills_by : Files → List ℕ → Declarations → Outcome
+fills_by files article set = after (article_in files set.entities article) (λ node. fitting 0 (filled_text set node))
+
 abbrev pub fills : Files → SetWords → List ℕ → Outcome
-fills files words article = after (set_by files words) (λ set. after (article_in files set.entities article) (λ node. fitting 0 (filled_text set node)))
+fills files words article = after (set_by files words) (fills_by files article)

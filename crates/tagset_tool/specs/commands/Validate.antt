@@ -7,6 +7,7 @@ use Rattle.article_validator.specs.Faults.{fault_list}
 use Rattle.article_validator.specs.declared.fault.Invalid.{Invalid}
 use Rattle.article_validator.specs.declared.fault.InvalidCause.{InvalidCause}
 use Rattle.article_validator.specs.declared.fault.InvalidCause.TheVariants as cause
+use Rattle.decl_set.specs.Declarations.{Declarations}
 use Rattle.module_reader.specs.Sources.{Files}
 use Rattle.tagset_tool.specs.Outcomes.{Outcome, after, answering, fitting}
 use Rattle.tagset_tool.specs.Words.{SetWords, set_by}
@@ -46,5 +47,9 @@ abbrev pub judged : List Invalid → Outcome
 judged [] = answering 0 valid_line
 judged (fault ∷ faults) = fitting 1 (fault_lines (fault ∷ faults))
 
+-- over a set
+abbrev pub validates_by : Files → List ℕ → List ℕ → Declarations → Outcome
+validates_by files root article set = after (article_in files set.entities article) (λ node. judged (fault_list set root node))
+
 abbrev pub validates : Files → SetWords → List ℕ → List ℕ → Outcome
-validates files words root article = after (set_by files words) (λ set. after (article_in files set.entities article) (λ node. judged (fault_list set root node)))
+validates files words root article = after (set_by files words) (validates_by files root article)

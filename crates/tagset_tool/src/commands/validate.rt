@@ -1,16 +1,14 @@
 //! `validate`: all that is wrong in an article.
 
-ghost use Rattle.std.specs.Prelude.{◌≡◌, ◌≤◌, ◌++◌, ◌∷◌, [], false, true, IfOk, IfSome, IsTrue, OnOk, string_bytes, length, nat_lt};
-ghost use Rattle.std.specs.Bool.{OnTrue, OnFalse};
+ghost use Rattle.std.specs.Prelude.{◌≡◌, ◌≤◌, ◌++◌, IfOk, IfSome, IsTrue, OnOk, string_bytes};
 ghost use Rattle.article_validator.specs.Faults.{fault_list};
 ghost use Rattle.jats_io.specs.Causes.{HasCause};
-ghost use Rattle.tagset_tool.specs.Outcomes.{fitting as fits, most_written};
+ghost use Rattle.tagset_tool.specs.Outcomes.{fitting as fits};
 ghost use Rattle.tagset_tool.specs.Runs.{IsLoadFailed, AnswersAbsence, Says};
 ghost use Rattle.tagset_tool.specs.Words as asked;
 ghost use Rattle.tagset_tool.specs.commands.Validate as spec;
 
-use crate::answer::{Answer, MOST_WRITTEN, Stop, refused, stop_of};
-use crate::refusals::output_over;
+use crate::answer::{Answer, Stop, fitting, stop_of};
 use crate::shown::shown;
 use crate::words::read_words;
 use article_files::load_article;
@@ -69,22 +67,14 @@ fn put_line(alloc: Global, out: &mut Vec<u8>, invalid: &Invalid) -> Result<(), N
     Ok(())
 }
 
-/// Writes the lines, and answers whether they are no longer than an output may be; of longer ones a front is written.
-fn put_lines(alloc: Global, out: &mut Vec<u8>, list: &[Invalid]) -> Result<bool, NoMemory>
-    requires { out.old.items ≡ [] }
-    ensures fits { IfOk result (λ fits. OnTrue fits (out.new.items ≡ spec.fault_lines list.now)) }
-    ensures short { IfOk result (λ fits. OnTrue fits (nat_lt most_written (length (spec.fault_lines list.now)) ≡ false)) }
-    ensures long { IfOk result (λ fits. OnFalse fits (nat_lt most_written (length (spec.fault_lines list.now)) ≡ true)) }
+/// Appends the lines.
+fn put_lines(alloc: Global, out: &mut Vec<u8>, list: &[Invalid]) -> Result<(), NoMemory>
+    ensures { OnOk result (out.new.items ≡ out.old.items ++ spec.fault_lines list.now) }
 {
-    let mut rest = list;
-    while let Some((invalid, after)) = rest.split_first() {
+    for invalid in list {
         put_line(alloc, out, invalid)?;
-        if out.len() as u64 > MOST_WRITTEN {
-            return Ok(false);
-        }
-        rest = after;
     }
-    Ok(true)
+    Ok(())
 }
 
 /// The lines, unless they are too long.
@@ -93,12 +83,8 @@ fn lines(alloc: Global, list: &[Invalid]) -> Result<Answer, NoMemory>
     ensures says { IfOk result (λ a. Says a.status a.bytes.items) }
 {
     let mut bytes = Vec::new(alloc);
-    if put_lines(alloc, &mut bytes, list)? {
-        Ok(Answer { status: 1, bytes })
-    } else {
-        let refusal = output_over(alloc)?;
-        refused(alloc, &refusal)
-    }
+    put_lines(alloc, &mut bytes, list)?;
+    fitting(alloc, 1, bytes)
 }
 
 /// The answer over what is wrong.

@@ -1,5 +1,8 @@
 use Rattle.std.proofs.Common.{ℕ, List, arith, IfSome, subst, sym, Ok, Err}
 use Rattle.document_trees.specs.Trees.{Node}
+use Rattle.decl_set.specs.Declarations.{Declarations}
+use Rattle.module_reader.specs.Sources.{Files}
+use Rattle.tagset_tool.specs.Outcomes.{Outcome}
 use Rattle.module_reader.proofs.Told.{cause_later, cause_of}
 use Rattle.tagset_tool.proofs.Asked.{absence_of, five_words, four_words, told_both, told_stopped, told_stopped_then, word_at}
 use Rattle.tagset_tool.proofs.Causes.{no_cause}
@@ -10,7 +13,7 @@ use Rattle.module_reader.specs.Outcomes.{Reads}
 use Rattle.tagset_tool.specs.Outcomes.{after, fitting}
 use Rattle.tagset_tool.specs.Words.{set_by, set_words, word}
 use Rattle.tagset_tool.specs.commands.Fill.{filled_text}
-use Rattle.tagset_tool.specs.commands.Validate.{judged}
+use Rattle.tagset_tool.specs.commands.Validate.{judged, validates_by}
 use Rattle.tagset_tool.proofs.commands.validate.validate_words.Goals as goal
 
 pub returns-in-Ok-validated-clause-absences : goal.returns-in-Ok-validated-clause-absences
@@ -21,11 +24,11 @@ returns-in-Ok-validated-clause-absences g c =
 
 pub returns-in-Err-load_article-clause-absences : goal.returns-in-Err-load_article-clause-absences
 returns-in-Err-load_article-clause-absences g c =
-    cause_later _ _ _ _ c.read_words.ensures.absences.later (cause_of _ _ _ _ c.in-Err-load_article.ensures.absences (λ h. absence_of c.in-Err-load_article.fault (c.stop_of-in-Err-load_article.ensures.absence h)))
+    cause_later _ _ _ _ c.read_words.ensures.absences.later (cause_of _ _ _ _ c.in-Err-load_article.ensures.absences (λ h. absence_of Declarations Node c.in-Err-load_article.fault (c.stop_of-in-Err-load_article.ensures.absence h)))
 
 pub returns-in-Err-clause-told : goal.returns-in-Err-clause-told
 returns-in-Err-clause-told g c =
-    told_stopped (g.S.Store.holds c.args.store.now) (λ files. set_by files (set_words c.args.words.now 1)) (λ files set. after (article_in files set.entities (word c.args.words.now 4)) (λ node. (λ set node. judged (fault_list set (word c.args.words.now 3) node)) set node))
+    told_stopped (g.S.Store.holds c.args.store.now) (λ files. set_by files (set_words c.args.words.now 1)) (λ files. validates_by files (word c.args.words.now 3) (word c.args.words.now 4))
     c.in-Err.fault c.stop_of.result c.in-Err.ensures.told c.stop_of.ensures.stops
 
 pub returns-in-Err-load_article-clause-told : goal.returns-in-Err-load_article-clause-told
