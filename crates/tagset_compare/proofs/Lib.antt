@@ -1,4 +1,5 @@
 pub mod Broken
+pub mod Firsts
 pub mod Judging
 pub mod Lively
 pub mod Numbers

@@ -293,6 +293,13 @@ module _ (first second : Declarations) (kf : IsKept first) (ks : IsKept second) 
       (λ t q i. below first e node.items u.1.1 u.2.1.1 i)
       refl u.3
 
+  -- round a useful element that breaks there is a separating document
+  pub separated : (root e : Chars) (k : Cause) → IsUseful first root e → Breaks first second e k → (node : Node) × IsSeparating first second root node
+  unfolding Parts
+  separated root e k u b =
+      let s = breaking e k (has_document e root u) b in
+      around e s.0 s.1 root u.0 u.1 u.2 u.3
+
   pub none_breaks : (root : Chars) → IsSubset first second root → NoneBreaks first second root
   unfolding Parts
   none_breaks root sub e u k b =

@@ -3,6 +3,7 @@
 ghost use Rattle.tagset_compare.specs.Beside.{OddTells};
 ghost use Rattle.tagset_compare.specs.Chains.{UsefulByChains};
 ghost use Rattle.tagset_compare.specs.Finite.{DocumentsByCosts, EndsByCosts};
+ghost use Rattle.tagset_compare.specs.Firsts.{DocumentsByUseful, FirstListed, SeparatedByBreaks};
 ghost use Rattle.tagset_compare.specs.Laws.{SubsetByBreaks};
 ghost use Rattle.tagset_compare.specs.Reported.{NoneListed, OneBroken};
 
@@ -13,16 +14,22 @@ pub fn odd_law()
 {}
 
 /// Every document of the first set is one of the second exactly where no useful element breaks; and useful are the elements
-/// that chains of live children reach from a root that has a document.
+/// that chains of live children reach from a root that has a document. Round a useful element that breaks there is a
+/// separating document.
 pub fn subset_law()
     ensures subset { SubsetByBreaks }
     ensures useful { UsefulByChains }
+    ensures separated { SeparatedByBreaks }
 {}
 
-/// What a report lists is one list, and it is empty exactly where every document of the first is one of the second.
+/// What a report lists is one list, and it is empty exactly where every document of the first is one of the second. The
+/// first that is listed is the first useful element that breaks, and some element is useful exactly where the root has a
+/// document.
 pub fn report_law()
     ensures none { NoneListed }
     ensures one { OneBroken }
+    ensures first { FirstListed }
+    ensures documents { DocumentsByUseful }
 {}
 
 /// Least costs tell which names have documents, and from which states such names lead to acceptance: those that have a

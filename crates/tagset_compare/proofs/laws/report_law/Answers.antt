@@ -1,4 +1,5 @@
 use Rattle.tagset_compare.proofs.Broken.{none_is_listed, one_broken}
+use Rattle.tagset_compare.proofs.Firsts.{documents_by_useful, first_listed}
 use Rattle.tagset_compare.proofs.laws.report_law.Goals as goal
 
 pub returns-clause-none : goal.returns-clause-none
@@ -6,3 +7,9 @@ returns-clause-none c = none_is_listed
 
 pub returns-clause-one : goal.returns-clause-one
 returns-clause-one c = one_broken
+
+pub returns-clause-first : goal.returns-clause-first
+returns-clause-first c = first_listed
+
+pub returns-clause-documents : goal.returns-clause-documents
+returns-clause-documents c = documents_by_useful

@@ -1,3 +1,4 @@
+use Rattle.tagset_compare.proofs.Firsts.{separated_by_breaks}
 use Rattle.tagset_compare.proofs.Reaching.{useful_by_chains}
 use Rattle.tagset_compare.proofs.Subsets.{subset_by_breaks}
 use Rattle.tagset_compare.proofs.laws.subset_law.Goals as goal
@@ -7,3 +8,6 @@ returns-clause-subset c = subset_by_breaks
 
 pub returns-clause-useful : goal.returns-clause-useful
 returns-clause-useful c = useful_by_chains
+
+pub returns-clause-separated : goal.returns-clause-separated
+returns-clause-separated c = separated_by_breaks
