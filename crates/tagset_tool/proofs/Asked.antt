@@ -17,8 +17,7 @@ use Rattle.tagset_tool.specs.declared.answer.Stop.{Stop}
 use Rattle.tagset_tool.specs.declared.answer.Stop.TheVariants as stop
 use Rattle.tagset_tool.specs.Outcomes.{Outcome, after}
 use Rattle.tagset_tool.specs.Runs.{StopsAs}
-use Rattle.tagset_tool.specs.Words.{SetWords, word, set_by, is_compare, is_fill, is_validate}
-use Rattle.tagset_tool.specs.commands.Compare.{compares, over_sets}
+use Rattle.tagset_tool.specs.Words.{SetWords, word, set_by, is_compare, is_fill, is_report, is_validate}
 
 -- what a place of the words has
 pub word_at : (words : List (List ℕ)) (i : ℕ) (x : List ℕ) → i < length words → x ≡ get_or words i x → x ≡ word words i
@@ -28,6 +27,10 @@ word_at words i x within is = is ∙ get_or_default words i x [] within
 pub seven_words : (words : List (List ℕ)) → is_compare words ≡ true → length words ≡ 7
 seven_words words t = eqb-true (length words) 7 (and_parts (length words == 7) (bytes_eq (word words 0) (codes "compare") && bytes_eq (word words 6) (codes "0")) t).0
 
+-- words of a report are six
+pub six_words : (words : List (List ℕ)) → is_report words ≡ true → length words ≡ 6
+six_words words t = eqb-true (length words) 6 (and_parts (length words == 6) (bytes_eq (word words 0) (codes "report")) t).0
+
 -- those of `validate` are five, and those of `fill` four
 pub five_words : (words : List (List ℕ)) → is_validate words ≡ true → length words ≡ 5
 five_words words t = eqb-true (length words) 5 (and_parts (length words == 5) (bytes_eq (word words 0) (codes "validate")) t).0
@@ -36,13 +39,14 @@ pub four_words : (words : List (List ℕ)) → is_fill words ≡ true → length
 four_words words t = eqb-true (length words) 4 (and_parts (length words == 4) (bytes_eq (word words 0) (codes "fill")) t).0
 
 -- an answer over two sets that were read is the output
-pub told_compared : (holds : Option Files) (one other : SetWords) (root a : List ℕ) (p q : Declarations) (status : ℕ) (bytes : List ℕ) → a ≡ root → IfSome holds (λ files. Reads (set_by files one) (Ok p)) → IfSome holds (λ files. Reads (set_by files other) (Ok q))
-    → over_sets p q a status bytes → IfSome holds (λ files. compares files one other root status bytes)
-told_compared None one other root a p q status bytes same first_read second_read over = tt
-told_compared (Some files) one other root a p q status bytes same first_read second_read over =
-    let P : Result Declarations Fault → Type 0 = λ r. after r (λ first. after (set_by files other) (λ second. over_sets first second root)) status bytes in
-    let Q : Result Declarations Fault → Type 0 = λ r. after r (λ second. over_sets p second root) status bytes in
-    let R : List ℕ → Type 0 = λ name. over_sets p q name status bytes in
+pub told_over : (next : Declarations → Declarations → List ℕ → Outcome) (holds : Option Files) (one other : SetWords) (root a : List ℕ) (p q : Declarations) (status : ℕ) (bytes : List ℕ) → a ≡ root
+    → IfSome holds (λ files. Reads (set_by files one) (Ok p)) → IfSome holds (λ files. Reads (set_by files other) (Ok q)) → next p q a status bytes
+    → IfSome holds (λ files. after (set_by files one) (λ first. after (set_by files other) (λ second. next first second root)) status bytes)
+told_over next None one other root a p q status bytes same first_read second_read over = tt
+told_over next (Some files) one other root a p q status bytes same first_read second_read over =
+    let P : Result Declarations Fault → Type 0 = λ r. after r (λ first. after (set_by files other) (λ second. next first second root)) status bytes in
+    let Q : Result Declarations Fault → Type 0 = λ r. after r (λ second. next p second root) status bytes in
+    let R : List ℕ → Type 0 = λ name. next p q name status bytes in
     subst P (sym first_read) (subst Q (sym second_read) (subst R same over))
 
 -- what is answered where a set is not read

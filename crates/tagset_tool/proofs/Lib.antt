@@ -1,16 +1,11 @@
 pub mod Absences
-pub mod Added
 pub mod Asked
-pub mod Breaks
 pub mod Causes
 pub mod Counted
-pub mod Documents
 pub mod Heads
 pub mod Leaving
-pub mod Names
 pub mod OneOutput
 pub mod Outcomes
-pub mod Places
-pub mod PlainSets
 pub mod Present
+pub mod Reported
 pub mod SoundRuns

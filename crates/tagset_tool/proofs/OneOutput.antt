@@ -1,6 +1,6 @@
 -- Words and files have one output.
-use Rattle.std.proofs.Common.{◌≡◌, ◌∙◌, ◌⊎◌, inl, inr, ℕ, Bool, true, false, ◌&&◌, List, [], ◌∷◌, ◌++◌, sym, ap, subst, Some, None, refl}
-use Rattle.std.specs.Prelude.{Option, encode_utf8_all}
+use Rattle.std.proofs.Common.{◌≡◌, ◌∙◌, ◌⊎◌, ◌↔◌, inl, inr, ℕ, Bool, true, false, List, [], ◌∷◌, ◌++◌, sym, ap, subst, Some, None, Ok, Err, IsTrue, refl}
+use Rattle.std.specs.Prelude.{Option, Result, is_some, encode_utf8_all}
 use Rattle.std.specs.List.{AllByRecursion}
 use Rattle.content_models.specs.declared.content.Content.{Content}
 use Rattle.attlist_merge.specs.Lists.{Definitions}
@@ -9,24 +9,28 @@ use Rattle.decl_set.specs.declared.breaks.Cause.{Cause}
 use Rattle.decl_set.specs.Breaks.{BothBreak, OddBreaks, IsKept, IsFirstBroken, Breaks, BreaksBy}
 use Rattle.dtd_flattener.specs.Flat.{flat_text}
 use Rattle.module_reader.specs.Sources.{Files}
-use Rattle.tagset_tool.specs.Plain.{is_plain_set}
-use Rattle.tagset_tool.specs.Verdicts.{IsVerdict}
+use Rattle.tagset_tool.specs.Verdicts.{Verdict, Subset, Above, IsVerdict}
+use Rattle.decl_set.specs.Validity.{HasDocument}
+use Rattle.tagset_compare.specs.Reported.{PassesAt}
+use Rattle.tagset_compare.specs.declared.fault.ReportFault.{ReportFault}
+use Rattle.tagset_compare.specs.declared.fault.ReportFault.TheVariants.{RootUndeclared, PairsOver, NoMemory}
+use Rattle.tagset_compare.specs.declared.outcome.Report.{Report}
+use Rattle.tagset_compare.proofs.OneReport.{one_report}
+use Rattle.tagset_tool.specs.commands.Report.{reports, reported, telling, report_lines, report_status}
 use Rattle.tagset_tool.specs.Counts.{count_lines}
-use Rattle.tagset_tool.specs.Outcomes.{IsUnique, after, answering, fitting}
+use Rattle.tagset_tool.specs.Outcomes.{IsUnique, after, answering, fitting, refusing}
 use Rattle.tagset_tool.specs.Output.{IsOutput, outcome_of, usage_line}
-use Rattle.tagset_tool.specs.Refusals.{form_unbuilt, root_undeclared}
-use Rattle.tagset_tool.specs.Words.{Asked, SetWords, check, flatten, validate, fill, compare, asked, set_by}
+use Rattle.tagset_tool.specs.Refusals.{pairs_over, root_undeclared}
+use Rattle.tagset_tool.specs.Words.{Asked, SetWords, check, flatten, validate, fill, compare, report, asked, set_by}
 use Rattle.article_files.specs.Bytes.{article_in}
 use Rattle.article_validator.specs.Faults.{fault_list}
 use Rattle.article_validator.specs.declared.fault.Invalid.{Invalid}
 use Rattle.tagset_tool.specs.commands.Fill.{fills, filled_text}
 use Rattle.tagset_tool.specs.commands.Validate.{validates, judged, valid_line, fault_lines}
-use Rattle.tagset_tool.specs.commands.Compare.{compares, from_root, over_plain, over_sets, root_in, verdict_status, verdict_lines}
+use Rattle.tagset_tool.specs.commands.Compare.{compares, compared, from_root, over_sets, verdict_status, verdict_lines}
 use Rattle.tagset_tool.proofs.Outcomes.{after_unique, answering_unique, fitting_unique, refusing_unique}
 use Rattle.decl_set.specs.declared.breaks.Cause.TheVariants as cause
 use Rattle.decl_set.specs.declared.breaks.BrokenDecl.{BrokenDecl}
-use Rattle.tagset_tool.specs.declared.comparison.Verdict.{Verdict}
-use Rattle.tagset_tool.specs.declared.comparison.Verdict.TheVariants as verdict
 
 -- the first element of a list without K, where those before it have K
 first_without : {X : Type 0} (K : X → Type 0) (before other : List X) (p q : X) (after more : List X) → before ++ p ∷ after ≡ other ++ q ∷ more → AllByRecursion K before → AllByRecursion K other → (K p → ⊥) → (K q → ⊥) → p ≡ q
@@ -68,26 +72,64 @@ one_broken first second root d e one other =
     let causes : d.cause ≡ e.cause = one_cause first (content_in first e.element) (content_in second e.element) (attributes_in first e.element) (attributes_in second e.element) d.cause e.cause (subst P names one.breaks) other.breaks in
     ap (λ n. broken_by n d.cause) names ∙ ap (λ k. broken_by e.element k) causes
 
+same_told : (a b : Bool) (D : Type 0) → IsTrue a ↔ D → IsTrue b ↔ D → a ≡ b
+same_told true true D f g = refl
+same_told true false D f g = sym (g.1 (f.0 refl))
+same_told false true D f g = f.1 (g.0 refl)
+same_told false false D f g = refl
+
 one_verdict : (first second : Declarations) (root : List ℕ) (v w : Verdict) → IsVerdict first second root v → IsVerdict first second root w → v ≡ w
-one_verdict first second root verdict.Subset verdict.Subset one other = refl
-one_verdict first second root verdict.Subset (verdict.Above e) one other = absurd (one other.0.0 other.0.1)
-one_verdict first second root (verdict.Above d) verdict.Subset one other = absurd (other one.0.0 one.0.1)
-one_verdict first second root (verdict.Above d) (verdict.Above e) one other = ap (λ x. verdict.Above x) (one_broken first second root d e one.1 other.1)
+one_verdict first second root (Subset a) (Subset b) one other = ap (λ (x : Bool). Subset x) (same_told a b (HasDocument first root) one.1 other.1)
+one_verdict first second root (Subset a) (Above e) one other = absurd (one.0 other.0.0 other.0.1)
+one_verdict first second root (Above d) (Subset b) one other = absurd (other.0 one.0.0 one.0.1)
+one_verdict first second root (Above d) (Above e) one other = ap (λ (x : BrokenDecl). Above x) (one_broken first second root d e one.1 other.1)
 
-root_unique : (first second : Declarations) (root : List ℕ) (o : Option Content) → IsUnique (from_root first second root o)
-root_unique first second root None s t b c one other = refusing_unique (root_undeclared root) s t b c one other
-root_unique first second root (Some content) s t b c one other =
-    let same = one_verdict first second root one.verdict other.verdict one.true other.true in
-    (one.status_is ∙ ap verdict_status same ∙ sym other.status_is, one.bytes_are ∙ ap verdict_lines same ∙ sym other.bytes_are)
+-- one element is the first at which the pairs are too many
+one_pass : (first second : Declarations) (root name other : List ℕ) → IsTrue (is_some (content_in first root)) → PassesAt first second name → PassesAt first second other → name ≡ other
+one_pass first second root name other declared p q =
+    let e = one_report first second root (Err (PairsOver name)) (Err (PairsOver other)) (declared, p) (declared, q) (λ z. cc) (λ z. cc) in
+    cc
 
-plain_unique : (first second : Declarations) (root : List ℕ) (both : Bool) → IsUnique (over_plain first second root both)
-plain_unique first second root false = refusing_unique form_unbuilt
-plain_unique first second root true = root_unique first second root (root_in first root)
+compared_unique : (first second : Declarations) (root : List ℕ) → IsTrue (is_some (content_in first root)) → IsUnique (compared first second root)
+compared_unique first second root d s t b c (inl p) (inl q) =
+    let same = one_pass first second root p.0 q.0 d p.1 q.1 in
+    refusing_unique (pairs_over q.0) s t b c (subst (λ (name : List ℕ). refusing (pairs_over name) s b) same p.2) q.2
+compared_unique first second root d s t b c (inl p) (inr q) = absurd (q.0 p.0 p.1)
+compared_unique first second root d s t b c (inr p) (inl q) = absurd (p.0 q.0 q.1)
+compared_unique first second root d s t b c (inr p) (inr q) =
+    let one = p.1 in
+    let other = q.1 in
+    let same = one_verdict first second root one.0 other.0 one.1 other.1 in
+    (one.2.0 ∙ ap verdict_status same ∙ sym other.2.0, one.2.1 ∙ ap verdict_lines same ∙ sym other.2.1)
+
+root_unique : (first second : Declarations) (root : List ℕ) (o : Option Content) → (IsTrue (is_some o) → IsTrue (is_some (content_in first root))) → IsUnique (from_root first second root o)
+root_unique first second root None d s t b c one other = refusing_unique (root_undeclared root) s t b c one other
+root_unique first second root (Some content) d s t b c one other = compared_unique first second root (d refl) s t b c one other
 
 compares_unique : (files : Files) (one other : SetWords) (root : List ℕ) → IsUnique (compares files one other root)
 compares_unique files one other root =
     after_unique (set_by files one) (λ first. after (set_by files other) (λ second. over_sets first second root))
-    (λ first. after_unique (set_by files other) (λ second. over_sets first second root) (λ second. plain_unique first second root (is_plain_set first && is_plain_set second)))
+    (λ first. after_unique (set_by files other) (λ second. over_sets first second root) (λ second. root_unique first second root (content_in first root) (λ d. d)))
+
+telling_unique : (root : List ℕ) (result : Result Report ReportFault) → IsUnique (telling root result)
+telling_unique root (Ok report) s t b c one other = fitting_unique (report_status report) (report_lines report) s t b c one other
+telling_unique root (Err RootUndeclared) s t b c one other = refusing_unique (root_undeclared root) s t b c one other
+telling_unique root (Err (PairsOver name)) s t b c one other = refusing_unique (pairs_over name) s t b c one other
+telling_unique root (Err NoMemory) s t b c one other = absurd one
+
+-- what is told is no want of memory
+told_of : (root : List ℕ) (result : Result Report ReportFault) (s : ℕ) (b : List ℕ) → telling root result s b → result ≡ Err NoMemory → ⊥
+told_of root result s b told e = subst (λ (r : Result Report ReportFault). telling root r s b) e told
+
+reported_unique : (first second : Declarations) (root : List ℕ) → IsUnique (reported first second root)
+reported_unique first second root s t b c one other =
+    let same = one_report first second root one.0 other.0 one.1 other.1 (told_of root one.0 s b one.2) (told_of root other.0 t c other.2) in
+    telling_unique root other.0 s t b c (subst (λ (r : Result Report ReportFault). telling root r s b) same one.2) other.2
+
+reports_unique : (files : Files) (one other : SetWords) (root : List ℕ) → IsUnique (reports files one other root)
+reports_unique files one other root =
+    after_unique (set_by files one) (λ first. after (set_by files other) (λ second. reported first second root))
+    (λ first. after_unique (set_by files other) (λ second. reported first second root) (λ second. reported_unique first second root))
 
 judged_unique : (faults : List Invalid) → IsUnique (judged faults)
 judged_unique [] = answering_unique 0 valid_line
@@ -111,6 +153,7 @@ outcome_unique (Some (flatten words)) files =
 outcome_unique (Some (validate words root article)) files = validates_unique files words root article
 outcome_unique (Some (fill words article)) files = fills_unique files words article
 outcome_unique (Some (compare first second root)) files = compares_unique files first second root
+outcome_unique (Some (report first second root)) files = reports_unique files first second root
 
 pub one_output : (words : List (List ℕ)) (files : Files) → IsUnique (IsOutput words files)
 one_output words files = outcome_unique (asked words) files

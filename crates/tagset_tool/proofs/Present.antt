@@ -1,12 +1,12 @@
 -- Outputs that are not the line of an absent module.
-use Rattle.std.proofs.Common.{◌≡◌, ◌∙◌, ℕ, lit<, Bool, true, false, ◌&&◌, List, [], ◌∷◌, ◌++◌, Some, None, refl, sym, ap, subst, take, IsTrue, length, nat_lt, map, arith}
-use Rattle.std.specs.Prelude.{Option, encode_utf8_all}
+use Rattle.std.proofs.Common.{◌≡◌, ◌∙◌, ℕ, lit<, Bool, true, false, ◌&&◌, List, [], ◌∷◌, ◌++◌, Some, None, Ok, Err, inl, inr, refl, sym, ap, subst, take, IsTrue, length, nat_lt, map, arith}
+use Rattle.std.specs.Prelude.{Option, Result, encode_utf8_all}
 use Rattle.std.specs.List.{concat, flat_map}
 use Rattle.std.proofs.Math.Utf8.{encode}
 use Rattle.std.proofs.lemmas.Str.{encode_ascii}
 use Rattle.jats_fault.specs.Lines.{line_of}
 use Rattle.content_models.specs.declared.content.Content.{Content}
-use Rattle.decl_set.specs.Declarations.{Declarations, AttributesOf}
+use Rattle.decl_set.specs.Declarations.{Declarations, AttributesOf, content_in}
 use Rattle.dtd_flattener.specs.Flat.{Line, written, lines_of, flat_text, list_lines}
 use Rattle.document_trees.specs.Trees.{Node}
 use Rattle.article_tree.specs.Writing.{write}
@@ -14,13 +14,16 @@ use Rattle.article_validator.specs.Filling.{filled}
 use Rattle.article_validator.specs.declared.fault.Invalid.{Invalid}
 use Rattle.tagset_tool.specs.commands.Fill.{filled_text}
 use Rattle.tagset_tool.specs.commands.Validate.{judged, fault_lines, valid_line}
-use Rattle.tagset_tool.specs.declared.comparison.Verdict.{Verdict}
-use Rattle.tagset_tool.specs.declared.comparison.Verdict.TheVariants.{Subset, Above}
+use Rattle.tagset_tool.specs.Verdicts.{Verdict, Subset, Above}
+use Rattle.decl_set.specs.declared.breaks.BrokenDecl.{BrokenDecl}
+use Rattle.tagset_compare.specs.declared.fault.ReportFault.{ReportFault}
+use Rattle.tagset_compare.specs.declared.fault.ReportFault.TheVariants.{RootUndeclared, PairsOver, NoMemory}
+use Rattle.tagset_compare.specs.declared.outcome.Report.{Report}
+use Rattle.tagset_tool.specs.commands.Report.{count_line, differs_line, report_lines, report_status, reported, telling}
 use Rattle.tagset_tool.specs.Counts.{count_lines}
 use Rattle.tagset_tool.specs.Outcomes.{answering, fitting, fitting_by, most_written}
-use Rattle.tagset_tool.specs.commands.Compare.{from_root, over_plain, over_sets, verdict_lines, root_in}
-use Rattle.tagset_tool.specs.Plain.{is_plain_set}
-use Rattle.tagset_tool.specs.Refusals.{form_unbuilt, root_undeclared, output_over}
+use Rattle.tagset_tool.specs.commands.Compare.{from_root, over_sets, verdict_lines}
+use Rattle.tagset_tool.specs.Refusals.{pairs_over, root_undeclared, output_over}
 use Rattle.tagset_tool.specs.Runs.{is_absence}
 use Rattle.tagset_tool.proofs.Heads.{absence_number}
 
@@ -32,11 +35,11 @@ same_present bytes said is there = subst IsPresent (sym is) there
 
 -- ---- refusals
 
-unbuilt_present : IsPresent (line_of form_unbuilt)
-unbuilt_present t = absurd (let off : 19 ≡ 10 = absence_number form_unbuilt (lit< tt) t in omega arith)
-
 undeclared_present : (root : List ℕ) → IsPresent (line_of (root_undeclared root))
 undeclared_present root t = absurd (let off : 40 ≡ 10 = absence_number (root_undeclared root) (lit< tt) t in omega arith)
+
+pairs_present : (name : List ℕ) → IsPresent (line_of (pairs_over name))
+pairs_present name t = absurd (let off : 45 ≡ 10 = absence_number (pairs_over name) (lit< tt) t in omega arith)
 
 over_present : IsPresent (line_of output_over)
 over_present t = absurd (let off : 46 ≡ 10 = absence_number output_over (lit< tt) t in omega arith)
@@ -112,17 +115,29 @@ filled_present set node status bytes over =
     size_present (nat_lt most_written (length (filled_text set node))) 0 (filled_text set node) status bytes (angle_more (write (filled set node)) (10 ∷ []) refl) over
 
 verdict_present : (v : Verdict) → IsPresent (verdict_lines v)
-verdict_present Subset t = let off : IsTrue false = t in cc
+verdict_present (Subset some) t = let off : IsTrue false = t in cc
 verdict_present (Above broken) t = let off : IsTrue false = t in cc
 
 root_present : (first second : Declarations) (root : List ℕ) (o : Option Content) (status : ℕ) (bytes : List ℕ) → from_root first second root o status bytes → IsPresent bytes
 root_present first second root None status bytes over = same_present bytes (line_of (root_undeclared root)) over.1 (undeclared_present root)
-root_present first second root (Some content) status bytes over = same_present bytes (verdict_lines over.verdict) over.bytes_are (verdict_present over.verdict)
-
-plain_present : (first second : Declarations) (root : List ℕ) (both : Bool) (status : ℕ) (bytes : List ℕ) → over_plain first second root both status bytes → IsPresent bytes
-plain_present first second root false status bytes over = same_present bytes (line_of form_unbuilt) over.1 unbuilt_present
-plain_present first second root true status bytes over = root_present first second root (root_in first root) status bytes over
+root_present first second root (Some content) status bytes (inl over) = same_present bytes (line_of (pairs_over over.0)) over.2.1 (pairs_present over.0)
+root_present first second root (Some content) status bytes (inr over) = let answer = over.1 in same_present bytes (verdict_lines answer.0) answer.2.1 (verdict_present answer.0)
 
 -- nor is an answer over two sets
 pub sets_present : (first second : Declarations) (root : List ℕ) (status : ℕ) (bytes : List ℕ) → over_sets first second root status bytes → IsPresent bytes
-sets_present first second root status bytes over = plain_present first second root (is_plain_set first && is_plain_set second) status bytes over
+sets_present first second root status bytes over = root_present first second root (content_in first root) status bytes over
+
+differing_present : (differs : List BrokenDecl) (useful count : ℕ) → IsPresent (flat_map differs_line differs ++ count_line useful count)
+differing_present [] useful count t = let off : IsTrue false = t in cc
+differing_present (broken ∷ differs) useful count t = let off : IsTrue false = t in cc
+
+telling_present : (root : List ℕ) (result : Result Report ReportFault) (status : ℕ) (bytes : List ℕ) → telling root result status bytes → IsPresent bytes
+telling_present root (Ok report) status bytes over =
+    size_present (nat_lt most_written (length (report_lines report))) (report_status report) (report_lines report) status bytes (differing_present report.differs report.useful (length report.differs)) over
+telling_present root (Err RootUndeclared) status bytes over = same_present bytes (line_of (root_undeclared root)) over.1 (undeclared_present root)
+telling_present root (Err (PairsOver name)) status bytes over = same_present bytes (line_of (pairs_over name)) over.1 (pairs_present name)
+telling_present root (Err NoMemory) status bytes over = absurd over
+
+-- nor is a report
+pub reported_present : (first second : Declarations) (root : List ℕ) (status : ℕ) (bytes : List ℕ) → reported first second root status bytes → IsPresent bytes
+reported_present first second root status bytes over = telling_present root over.0 status bytes over.2

@@ -1,15 +1,14 @@
 -- What the first line of an output says of the documents.
 use Rattle.std.specs.Prelude.{◌≡◌, ◌↔◌, ℕ, ◌⊎◌, List, Some, Ok, IsSome, IsTrue, nat_eq}
 use Rattle.std.specs.List.{starts_with}
-use Rattle.decl_set.specs.Declarations.{Declarations}
+use Rattle.decl_set.specs.Declarations.{Declarations, content_in}
 use Rattle.document_trees.specs.Trees.{Node}
 use Rattle.decl_set.specs.Validity.{IsSeparating, IsSubset}
 use Rattle.module_reader.specs.Sources.{Files}
 use Rattle.tagset_tool.specs.Outcomes.{IsUnique}
 use Rattle.tagset_tool.specs.Output.{IsOutput}
 use Rattle.tagset_tool.specs.Words.{SetWords, compare, asked, set_by}
-use Rattle.tagset_tool.specs.commands.Compare.{root_in, subset_line}
-use Rattle.tagset_tool.specs.Plain.{is_plain_set}
+use Rattle.tagset_tool.specs.commands.Compare.{FewPairs, subset_line}
 
 -- Status 0 where no document separates, and only there; status 1 where one does, and only there. The first line is `subset`
 -- exactly at status 0.
@@ -19,16 +18,15 @@ pub record SaysSubset (first second : Declarations) (root : List ℕ) (status : 
   pub one_of : (status ≡ 0) ⊎ (status ≡ 1)
   pub first_line : (status ≡ 0) ↔ IsTrue (starts_with nat_eq bytes subset_line)
 
--- words ask to compare two sets, which are read and plain, and the first declares the root
+-- words ask to compare two sets, which are read, the first declares the root, and the listed pairs are not too many
 pub record IsCompared (words : List (List ℕ)) (files : Files) (first second : Declarations) (root : List ℕ) : Type 0 where
   pub one : SetWords
   pub other : SetWords
   pub asks : asked words ≡ Some (compare one other root)
   pub reads_first : set_by files one ≡ Ok first
   pub reads_second : set_by files other ≡ Ok second
-  pub plain_first : IsTrue (is_plain_set first)
-  pub plain_second : IsTrue (is_plain_set second)
-  pub declared : IsSome (root_in first root)
+  pub declared : IsSome (content_in first root)
+  pub few : FewPairs first second
 
 abbrev pub SubsetLaw : Type 0
 SubsetLaw = (words : List (List ℕ)) (files : Files) (first second : Declarations) (root : List ℕ) (status : ℕ) (bytes : List ℕ)

@@ -1,11 +1,8 @@
 pub mod commands
-pub mod Checks
 pub mod Counts
 pub mod Law
 pub mod Outcomes
 pub mod Output
-pub mod Plain
-pub mod Reached
 pub mod Refusals
 pub mod Runs
 pub mod Sound

@@ -17,6 +17,7 @@ pub data Asked : Type 0 where
   validate : SetWords → (root article : List ℕ) → Asked
   fill : SetWords → (article : List ℕ) → Asked
   compare : (first second : SetWords) (root : List ℕ) → Asked
+  report : (first second : SetWords) (root : List ℕ) → Asked
 
 abbrev pub word : List (List ℕ) → ℕ → List ℕ
 word words k = slice_index_or words k []
@@ -49,6 +50,10 @@ is_fill words = length words == 4 && bytes_eq (word words 0) (codes "fill")
 abbrev pub is_compare : List (List ℕ) → Bool
 is_compare words = length words == 7 && (bytes_eq (word words 0) (codes "compare") && bytes_eq (word words 6) (codes "0"))
 
+-- report CATALOG1 FIRST CATALOG2 SECOND ROOT
+abbrev pub is_report : List (List ℕ) → Bool
+is_report words = length words == 6 && bytes_eq (word words 0) (codes "report")
+
 abbrev pub asked : List (List ℕ) → Option Asked
 asked words =
     if is_check words then Some (check (set_words words 1))
@@ -56,6 +61,7 @@ asked words =
     else if is_validate words then Some (validate (set_words words 1) (word words 3) (word words 4))
     else if is_fill words then Some (fill (set_words words 1) (word words 3))
     else if is_compare words then Some (compare (set_words words 1) (set_words words 3) (word words 5))
+    else if is_report words then Some (report (set_words words 1) (set_words words 3) (word words 5))
     else None
 
 -- the set that words name, or the first refusal

@@ -2,4 +2,5 @@ pub mod Check
 pub mod Compare
 pub mod Fill
 pub mod Flatten
+pub mod Report
 pub mod Validate

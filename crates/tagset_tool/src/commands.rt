@@ -4,4 +4,5 @@ pub mod check;
 pub mod compare;
 pub mod fill;
 pub mod flatten;
+pub mod report;
 pub mod validate;

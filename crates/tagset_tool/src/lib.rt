@@ -10,12 +10,10 @@
 
 mod answer;
 mod commands;
-mod comparison;
 mod counts;
 mod laws;
-mod name_set;
-mod plain_sets;
 mod refusals;
+mod reports;
 mod rows;
 mod shown;
 mod sound;

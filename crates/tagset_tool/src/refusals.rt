@@ -4,7 +4,7 @@ ghost use Rattle.std.specs.Prelude.{◌≡◌, [], IfOk, codes};
 ghost use Rattle.module_reader.specs.Stops.{refusal};
 ghost use Rattle.tagset_tool.specs.Refusals as spec;
 
-use jats_chars::{NoMemory, Text};
+use jats_chars::{Name, NoMemory, Text};
 use jats_fault::{Details, Fault, Place, numbers};
 use std::alloc::Global;
 
@@ -28,13 +28,6 @@ fn bare(alloc: Global, number: u16) -> Result<Fault, NoMemory>
     })
 }
 
-/// Two sets of which one is not plain.
-pub fn form_unbuilt(alloc: Global) -> Result<Fault, NoMemory>
-    ensures { IfOk result (λ f. f ≡ spec.form_unbuilt) }
-{
-    bare(alloc, numbers::FORM_UNBUILT)
-}
-
 /// A root that the first set does not declare.
 pub fn root_undeclared(alloc: Global, root: &Text) -> Result<Fault, NoMemory>
     ensures { IfOk result (λ f. f ≡ spec.root_undeclared root.now) }
@@ -45,6 +38,21 @@ pub fn root_undeclared(alloc: Global, root: &Text) -> Result<Fault, NoMemory>
     details.add(root);
     Ok(Fault {
         number: numbers::ROOT_UNDECLARED,
+        place,
+        details,
+    })
+}
+
+/// An element at which the listed pairs of two sets are too many.
+pub fn pairs_over(alloc: Global, name: &Name) -> Result<Fault, NoMemory>
+    ensures { IfOk result (λ f. f ≡ spec.pairs_over name.now) }
+{
+    let place = nowhere(alloc)?;
+    let name = name.text().copy(alloc)?;
+    let mut details = Details::new(alloc);
+    details.add(name);
+    Ok(Fault {
+        number: numbers::PAIRS_OVER,
         place,
         details,
     })

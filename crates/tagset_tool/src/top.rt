@@ -11,8 +11,9 @@ use crate::commands::check::check_words;
 use crate::commands::compare::compare_words;
 use crate::commands::fill::fill_words;
 use crate::commands::flatten::flatten_words;
+use crate::commands::report::report_words;
 use crate::commands::validate::validate_words;
-use crate::words::{is_check, is_compare, is_fill, is_flatten, is_validate};
+use crate::words::{is_check, is_compare, is_fill, is_flatten, is_report, is_validate};
 use jats_chars::Text;
 use jats_io::{Sink, Store, write_all};
 use std::alloc::Global;
@@ -47,6 +48,8 @@ fn answer_to<S: Store>(alloc: Global, words: &[Text], store: &mut S) -> Result<A
         fill_words(alloc, words, store)
     } else if is_compare(words) {
         compare_words(alloc, words, store)
+    } else if is_report(words) {
+        report_words(alloc, words, store)
     } else {
         usage(alloc)
     }

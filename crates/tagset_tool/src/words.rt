@@ -56,6 +56,13 @@ pub fn is_compare(words: &[Text]) -> bool
         && is_word(&words[6], &['0'])
 }
 
+/// Whether the words ask for a report.
+pub fn is_report(words: &[Text]) -> bool
+    ensures { result ≡ spec.is_report words.now }
+{
+    words.len() == 6 && is_word(&words[0], &['r', 'e', 'p', 'o', 'r', 't'])
+}
+
 /// The file of a catalog; `-` names none.
 fn catalog_word(word: &Text) -> Option<&Text>
     ensures { option_copied result ≡ spec.catalog_word word.now }
