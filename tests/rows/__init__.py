@@ -1,13 +1,13 @@
-"""The table: rows by subject. Those of `articles` and `validity` wait for the commands that they are about."""
+"""The table: rows by subject."""
 
-from . import (attributes, catalogs, comparison, contents, entities, expansion, faults, flat_texts,
-               forms, limits, modules, sections, waiting)
+from . import (articles, attributes, catalogs, comparison, contents, entities, expansion, faults, flat_texts,
+               forms, limits, modules, report, sections, validity, waiting)
 
 SUBJECTS = (entities, expansion, waiting, sections, modules, catalogs, forms, contents, attributes, faults,
-            limits, flat_texts, comparison)
+            limits, flat_texts, comparison, articles, validity, report)
 
 # These have rows that go to limits of many millions of characters, and take a second or more each.
-SLOW = (expansion, limits)
+SLOW = (expansion, limits, articles, validity, report)
 
 
 def table():

@@ -7,7 +7,6 @@ A = "<!ELEMENT a EMPTY>"
 LISTED = "<!ELEMENT r (#PCDATA|a)*>" + A
 PLAIN = "<!ELEMENT r (#PCDATA)>" + A
 SOME = "subset\ndocuments some\n"
-UNBUILT = "refused E19 FormUnbuilt - 0\n"
 
 
 def broken(element, cause):
@@ -39,20 +38,20 @@ VERDICTS = [
      "<!ELEMENT r (#PCDATA|bc)*><!ELEMENT bc EMPTY>", "r", 0, SOME),
     ("a name put together by entities, the other way", "<!ELEMENT r (#PCDATA|bc)*><!ELEMENT bc EMPTY>",
      '<!ENTITY % a "b"><!ENTITY % n "%a;c"><!ELEMENT r (#PCDATA|%n;)*><!ELEMENT bc EMPTY>', "r", 0, SOME),
+    ("content of the second is children", A, "<!ELEMENT b (a)>", "a", 1, broken("a", "undeclared")),
+    ("content of the first is ANY", "<!ELEMENT a ANY>", A, "a", 1, broken("a", "content")),
+    ("content of the second is ANY", A, A + "<!ELEMENT b ANY>", "a", 0, SOME),
+    ("attributes of the first", A + "<!ATTLIST a k CDATA #IMPLIED>", A, "a", 1, broken("a", "attribute k")),
+    ("attributes of the second", A, A + "<!ATTLIST a k CDATA #IMPLIED>", "a", 0, SOME),
+    ("attributes of an element that is not declared", A, A + "<!ATTLIST z k CDATA #IMPLIED>", "a", 0, SOME),
     ("names of other letters", "<!ELEMENT é語 (#PCDATA)>", "<!ELEMENT é語 EMPTY>", "é語", 1, broken("é語", "text")),
 ]
 
 # As above, all refused.
 REFUSED = [
-    ("content of the first is children", "<!ELEMENT b (a)>", A, "a", UNBUILT),
-    ("content of the second is children", A, "<!ELEMENT b (a)>", "a", UNBUILT),
-    ("content of the first is ANY", "<!ELEMENT a ANY>", A, "a", UNBUILT),
-    ("content of the second is ANY", A, A + "<!ELEMENT b ANY>", "a", UNBUILT),
-    ("attributes of the first", A + "<!ATTLIST a k CDATA #IMPLIED>", A, "a", UNBUILT),
-    ("attributes of the second", A, A + "<!ATTLIST a k CDATA #IMPLIED>", "a", UNBUILT),
-    ("attributes of an element that is not declared", A, A + "<!ATTLIST z k CDATA #IMPLIED>", "a", UNBUILT),
-    ("children and a root that is not declared", "<!ELEMENT b (a)>", A, "r", UNBUILT),
-    ("attributes of the second and a root that is not declared", A, "<!ATTLIST z k CDATA ''>", "r", UNBUILT),
+    ("children and a root that is not declared", "<!ELEMENT b (a)>", A, "r", "refused E40 RootUndeclared - 0 r\n"),
+    ("attributes of the second and a root that is not declared", A, "<!ATTLIST z k CDATA ''>", "r",
+     "refused E40 RootUndeclared - 0 r\n"),
     ("a root that is not declared", A, A, "b", "refused E40 RootUndeclared - 0 b\n"),
     ("a root that the second alone declares", A, A + "<!ELEMENT b EMPTY>", "b", "refused E40 RootUndeclared - 0 b\n"),
     ("a root that is only listed", "<!ELEMENT r (#PCDATA|a)*>", A, "a", "refused E40 RootUndeclared - 0 a\n"),
@@ -137,7 +136,8 @@ def customised():
         Row("a base against its customisation", files, back.format("article"), 1, broken("title", "content")),
         Row("a phrase of a customisation", files, line.format("bold"), 0, SOME),
         Row("a phrase of a base", files, back.format("bold"), 0, SOME),
-        Row("a customisation with an article of children", CUSTOMISED, line.format("title"), 2, UNBUILT),
+        Row("a customisation with an article of children", CUSTOMISED, line.format("article"), 0, SOME),
+        Row("a base with an article of children", CUSTOMISED, back.format("article"), 1, broken("title", "content")),
     ]
 
 

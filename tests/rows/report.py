@@ -78,6 +78,16 @@ def refused(name, first, second, root, line):
     return Row("report: " + name, files, f"report - m.dtd - n.dtd {root}", 2, f"refused {line}\n")
 
 
+def compared(name, first, second, root, lines, useful):
+    """The same two sets compared."""
+    if lines:
+        output = f"not subset\nabove 0\nbroken {lines[0]}\n"
+    else:
+        output = "subset\ndocuments " + ("some\n" if useful else "none\n")
+    files = {"m.dtd": first, "n.dtd": second}
+    return Row("compared: " + name, files, f"compare - m.dtd - n.dtd {root} 0", 1 if lines else 0, output)
+
+
 def many(elements, names):
     """Each element has the content of so many names under a star."""
     return "<!ELEMENT p EMPTY>" + "".join(f"<!ELEMENT {e} {parts(names)}>" for e in elements)
@@ -88,7 +98,7 @@ def rows():
                 differs("title content", "p content", useful=5))
     back = Row("report: a customisation, the other way", CUSTOMISED, "report cat.txt custom.dtd - base.dtd article", 0,
                differs(useful=4))
-    return [forth, back, *(reported(*row) for row in REPORTS), *(refused(*row) for row in REFUSED)]
+    return [forth, back, *(reported(*row) for row in REPORTS), *(compared(*row) for row in REPORTS), *(refused(*row) for row in REFUSED)]
 
 
 def slow_rows():
@@ -97,5 +107,7 @@ def slow_rows():
     two = {"m.dtd": many("xy", 1023), "n.dtd": many("xy", 1024)}
     return [
         Row("report: 1,047,553 pairs", one, "report - m.dtd - n.dtd x", 1, differs("x content", useful=2)),
+        Row("compared: 1,047,553 pairs", one, "compare - m.dtd - n.dtd x 0", 1, "not subset\nabove 0\nbroken x content\n"),
+        Row("compared: twice as many pairs", two, "compare - m.dtd - n.dtd x 0", 2, "refused E45 PairsOver - 0 y\n"),
         Row("report: twice as many pairs", two, "report - m.dtd - n.dtd x", 2, "refused E45 PairsOver - 0 y\n"),
     ]
