@@ -15,8 +15,6 @@
 mod check;
 mod laws;
 mod list;
-#[cfg(test)]
-mod list_tests;
 mod odd;
 mod parse;
 mod raw;

@@ -22,8 +22,6 @@ mod oddness;
 mod pieces;
 mod set;
 mod spelled;
-#[cfg(test)]
-mod tests;
 mod value_stack;
 mod values;
 
