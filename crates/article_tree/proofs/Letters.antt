@@ -24,7 +24,7 @@ abbrev pub AreLetters : List ℕ → List ℕ → Type 0
 AreLetters [] rest = Unit {0}
 AreLetters (c ∷ cs) rest = (eqb c 38 ≡ false) × (eqb c 60 ≡ false) × (starts_with nat_eq (c ∷ (cs ++ rest)) (codes "]]>") ≡ false) × AreLetters cs rest
 
-letter_first : (c : ℕ) (cs : List ℕ) → eqb c 38 ≡ false → eqb c 60 ≡ false → starts_with nat_eq (c ∷ cs) (codes "]]>") ≡ false → first_token (c ∷ cs) ≡ Some (letter c, cs)
+pub letter_first : (c : ℕ) (cs : List ℕ) → eqb c 38 ≡ false → eqb c 60 ≡ false → starts_with nat_eq (c ∷ cs) (codes "]]>") ≡ false → first_token (c ∷ cs) ≡ Some (letter c, cs)
 unfolding first_token
 letter_first c cs and less apart = cond-false (eqb c 38) _ _ and ∙ cond-false (eqb c 60) _ _ less ∙ cond-false (starts_with nat_eq (c ∷ cs) (codes "]]>")) _ _ apart
 

@@ -26,6 +26,7 @@ pub mod Appended
 pub mod Standing
 pub mod Tagged
 pub mod Stepping
+pub mod RunsPut
 pub mod Skipping
 pub mod Beginning
 pub mod Decoded

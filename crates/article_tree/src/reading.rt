@@ -9,17 +9,19 @@ ghost use Rattle.article_tree.specs.Outcomes.{Answers};
 ghost use Rattle.article_tree.specs.Works.{Turns, passage_of, work_of};
 
 use crate::frames::Frame;
-use crate::held::Held;
+use crate::held::{Held, put_chars};
 use crate::outside::{step_outside, whole};
+use crate::runs::run_len;
 use crate::steps::{finish_text, step_inside};
 use crate::stops::{ArticleFault, Stand, refusal};
 use decl_set::DeclSet;
 use document_trees::Node;
 use jats_chars::{DecodeFault, NameList, Text, decode};
 use jats_fault::{Details, numbers};
+use crate::written::is_white;
 use std::alloc::Global;
 
-/// One token inside of an element, or of an included text.
+/// Characters that stand for themselves, as many as there are, or one token, inside of an element or of an included text.
 fn turn_inside<'a>(
     alloc: Global,
     set: &'a DeclSet,
@@ -32,6 +34,14 @@ fn turn_inside<'a>(
     requires inside { IsInside (map passage_of waiting.old.items) (state_of held.old) }
     ensures { (typed : Bool) → Turns set.now.entities (work_of held.old typed frame.old waiting.old) (work_of held.new true frame.new waiting.new) result }
 {
+    let rest = frame.text.split_at(frame.at).1;
+    let len = run_len(rest);
+    if len > 0 {
+        let run = rest.split_at(len).0;
+        put_chars(alloc, held, run, is_white(run))?;
+        frame.at += len;
+        return Ok(true);
+    }
     match step_inside(alloc, set, frame, held, waiting) {
         Err(fault) => Err(fault),
         Ok(()) => Ok(true),

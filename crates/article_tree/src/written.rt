@@ -109,7 +109,8 @@ fn put_reference(out: &mut Text, c: char) -> Result<(), NoMemory>
     }
 }
 
-fn is_white(text: &[char]) -> bool
+/// Whether all characters are white space.
+pub fn is_white(text: &[char]) -> bool
     ensures { result ≡ white text.now }
 {
     text.iter().all(|c| is_space(*c))
