@@ -11,9 +11,12 @@ mod fault;
 mod laws;
 mod live;
 mod outcome;
+mod reporting;
+mod useful;
 
 pub use causes::{Judged, judge};
 pub use fault::ReportFault;
 pub use laws::{live_law, odd_law, report_law, subset_law};
 pub use live::{finite_flags, live_names};
 pub use outcome::{BrokenList, Report};
+pub use useful::useful_flags;

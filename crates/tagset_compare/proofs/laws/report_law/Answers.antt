@@ -1,4 +1,5 @@
 use Rattle.tagset_compare.proofs.Broken.{none_is_listed, one_broken}
+use Rattle.tagset_compare.proofs.Once.{one_report}
 use Rattle.tagset_compare.proofs.laws.report_law.Goals as goal
 
 pub returns-clause-none : goal.returns-clause-none
@@ -6,3 +7,6 @@ returns-clause-none c = none_is_listed
 
 pub returns-clause-one : goal.returns-clause-one
 returns-clause-one c = one_broken
+
+pub returns-clause-report : goal.returns-clause-report
+returns-clause-report c = one_report
