@@ -152,8 +152,7 @@ module _ (set : Declarations) (least : Least) (kept : IsKept set) (exact : IsExa
             let own = is_at set kept e p.element p.at in
             let l = of_sum p.element.0 p.element.1 e p.next own.0 own.1 p.rest in
             let runs : Runs p.element.1 0 (a.names ++ p.name ∷ l.0) = way_runs p.element.1 0 i a.names (p.name ∷ l.0) way (p.next, p.follows, l.2) in
-            let child : IsLiveChild set p.element.0 p.name =
-            (
+            let child : IsLiveChild set p.element.0 p.name = (
               p.element.1,
               a.names ++ p.name ∷ l.0,
               own.0,

@@ -1,10 +1,10 @@
 -- What is gathered of the elements, one more at a time.
-use Rattle.std.proofs.Common.{◌≡◌, ◌≤◌, ◌<◌, ◌+◌, ◌-◌, ℕ, zero, suc, List, [], ◌∷◌, ◌++◌, length, map, take, drop, Bool, true, false, Option, Some, None, MatchOption, slice_get, Result, Ok, Err, IsTrue, ◌⊎◌, inl, inr, refl, sym, ap, ◌∙◌, subst, arith, true≢false}
+use Rattle.std.proofs.Common.{◌≡◌, ◌≤◌, ◌<◌, ◌+◌, ◌-◌, ℕ, zero, suc, List, [], ◌∷◌, ◌++◌, length, get_or, map, take, drop, Bool, true, false, Option, Some, None, MatchOption, slice_get, Result, Ok, Err, IsTrue, ◌⊎◌, inl, inr, refl, sym, ap, ◌∙◌, subst, arith, true≢false}
 use Rattle.std.specs.Prelude.{is_some, option_map, option_and_then}
 use Rattle.std.specs.Bool.{Decides}
 use Rattle.content_models.specs.declared.content.Content.{Content}
 use Rattle.content_models.specs.Model.{Chars}
-use Rattle.decl_set.specs.Asked as set
+use Rattle.decl_set.specs.Asked as asked
 use Rattle.decl_set.specs.Declarations.{Declarations, Element, content_in, name_of}
 use Rattle.decl_set.specs.Validity.{IsUseful}
 use Rattle.decl_set.specs.declared.breaks.BrokenDecl.{BrokenDecl}
@@ -22,6 +22,7 @@ use Rattle.tagset_compare.specs.Finite.{is_finite}
 use Rattle.tagset_compare.specs.Gathered.{Finds, FindsAt, sums_of, broken_by, broken_at, one_if}
 use Rattle.tagset_compare.specs.Judged.{IsCause, Judges}
 use Rattle.tagset_compare.specs.Live.{AreLive}
+use Rattle.tagset_compare.specs.Useful.{TellUseful}
 use Rattle.tagset_compare.specs.Reported.{ListsBroken, CountsUseful, CountsPairs, SumsPairs, PassesAt, IsReported, Reports}
 use Rattle.tagset_compare.proofs.Numbers.{ends_by_costs}
 
@@ -169,13 +170,46 @@ pub not_named : (o : Option Element) (name : Chars) → Some name ≡ option_map
 not_named None name h g = cc
 not_named (Some x) name h g = cc
 
+there : {A : Type 0} (xs : List A) (k : ℕ) → k < length xs → (x : A) × (slice_get xs k ≡ Some x)
+there [] k l = absurd (omega (arith, l))
+there (y ∷ ys) zero l = (y, refl)
+there (y ∷ ys) (suc k) l = there ys k (omega (arith, l))
+
+-- ---- a turn of the loop
+
+module _ (first second : Declarations) (root : Chars) (k useful left : ℕ) (differs : List BrokenDecl) (t : Tallied first second root k useful differs left) (w : k < length first.elements) where
+  found : (r : Result Judged ReportFault) → FindsAt first second (slice_get first.elements k) left r → Finds first second left r (there first.elements k w).0
+  found r h = let x = there first.elements k w in found_there first second left r (slice_get first.elements k) x.0 x.1 h
+
+  pub few_pairs : (j : Judged) → FindsAt first second (slice_get first.elements k) left (Ok j) → j.pairs ≤ left
+  few_pairs j h = (found (Ok j) h).1
+
+  pub turned : (j : Judged) (flags : List Bool) (b : Bool) (n l : ℕ) (new : List BrokenDecl) → FindsAt first second (slice_get first.elements k) left (Ok j) → TellUseful first root flags
+      → b ≡ get_or flags k false → n ≡ useful + one_if b → new ≡ differs ++ broken_at (slice_get first.elements k) j.cause b → l + j.pairs ≡ left → Tallied first second root (k + 1) n new l
+  turned j flags b n l new h f is en ed el =
+      let x = there first.elements k w in
+      let d = subst (λ (z : Bool). Decides z (IsUseful first root (x.0).0)) (sym is) (f.told k x.0 x.1) in
+      tallied_more first second root k useful left differs t x.0 x.1 j b n l new (found (Ok j) h) d en (ed ∙ ap (λ (o : Option Element). differs ++ broken_at o j.cause b) x.1) el
+
+  pub fault_turned : (declared : IsTrue (is_some (content_in first root))) (f : ReportFault) → FindsAt first second (slice_get first.elements k) left (Err f) → Reports first second root (Err f)
+  fault_turned declared f h =
+      let x = there first.elements k w in
+      faulted first second root k useful left differs t x.0 x.1 declared f (found (Err f) h)
+
+pub content_there : (set : Declarations) → asked.IsKept set → (e : ℕ) (name : Chars) (o : Option Element) → slice_get set.elements e ≡ o → Some name ≡ option_map name_of o
+    → content_in set name ≡ option_map {U = Content} (λ x. x.1) o
+content_there set kept e name None h q = cc
+content_there set kept e name (Some x) h q =
+    let same : name ≡ x.0 = cc in
+    ap (content_in set) same ∙ (is_at set kept e x h).0
+
 row_at : (es : List Element) (rows : List LeastRow) (k : ℕ) (x : Element) → FitRows es rows → slice_get es k ≡ Some x → (row : LeastRow) × (slice_get rows k ≡ Some row)
 row_at [] rows k x f h = cc
 row_at (y ∷ es) [] k x f h = elim f [ ]
 row_at (y ∷ es) (row ∷ rows) zero x f h = (row, refl)
 row_at (y ∷ es) (row ∷ rows) (suc k) x f h = row_at es rows k x f.1 h
 
-pub ends_told_at : (set : Declarations) (least : Least) (live : List Chars) (e : ℕ) (x : Element) (flags : List Bool) → set.IsKept set → IsExact set least → AreLive set live
+pub ends_told_at : (set : Declarations) (least : Least) (live : List Chars) (e : ℕ) (x : Element) (flags : List Bool) → asked.IsKept set → IsExact set least → AreLive set live
     → slice_get set.elements e ≡ Some x → flags ≡ map is_finite (sums_of (slice_get least.rows e)) → TellEnds live x.1 flags
 ends_told_at set least live e x flags kept exact lives at f =
     let own = is_at set kept e x at in

@@ -86,7 +86,7 @@ module _ (first second : Declarations) where
   unfolding Apart
   passes_once n m p q = by (apart p.before (n, p.declared) p.after q.before (m, q.declared) q.after (sym p.place ∙ q.place))
     where
-      by : ((n, p.declared) ≡ (m, q.declared)) ⊎ (((rest : List Element) × (q.before ≡ p.before ++ (n, p.declared) ∷ rest)) ⊎ ((rest : List Element) × (p.before ≡ q.before ++ (m, q.declared) ∷ rest))) → n ≡ m
+      by : (◌≡◌ {A = Element} (n, p.declared) (m, q.declared)) ⊎ (((rest : List Element) × (q.before ≡ p.before ++ (n, p.declared) ∷ rest)) ⊎ ((rest : List Element) × (p.before ≡ q.before ++ (m, q.declared) ∷ rest))) → n ≡ m
       by (inl e) = ap (λ (z : Element). z.0) e
       by (inr (inl t)) = absurd (not_later n p q.before t.0 q.sum t.1 q.sums q.within)
       by (inr (inr t)) = absurd (not_later m q p.before t.0 p.sum t.1 p.sums p.within)

@@ -1,6 +1,6 @@
 //! What is reported of two sets.
 
-ghost use Rattle.std.specs.Prelude.{◌≡◌, ◌++◌, ◌+◌, ◌<◌, Some, IfOk, IsTrue, OnOk, is_some, map, option_map, slice_get};
+ghost use Rattle.std.specs.Prelude.{◌≡◌, ◌++◌, Some, true, IfOk, IsTrue, OnOk, is_some, map, option_map, slice_get};
 ghost use Rattle.decl_set.specs.Declarations.{Element, content_in};
 ghost use Rattle.model_inclusion.specs.Included.{TellEnds};
 ghost use Rattle.tree_costs.specs.Leasts.{IsExact};
@@ -16,6 +16,7 @@ use crate::useful::useful_flags;
 use crate::{BrokenList, Report, ReportFault};
 use decl_set::{BrokenDecl, Cause, DeclSet};
 use jats_chars::{ListOf, Name, NoMemory};
+use least_trees::least;
 use model_inclusion::{LiveNames, PairFault};
 use position_automata::Automaton;
 use std::alloc::Global;
@@ -115,7 +116,7 @@ fn push_broken(
     cause: Cause,
     differs: &mut BrokenList,
 ) -> Result<(), NoMemory>
-    ensures { OnOk result (differs.new ≡ differs.old ++ broken_at (slice_get set.now.elements e) (Some cause) Prim.true) }
+    ensures { OnOk result (differs.new ≡ differs.old ++ broken_at (slice_get set.now.elements e) (Some cause) true) }
 {
     match set.name_at(e) {
         None => Ok(()),
@@ -188,3 +189,23 @@ fn gather(
     Ok(Report { useful, differs })
 }
 
+/// What two sets say of a root of the first: how many elements of the first are useful, and those of them that break in the
+/// second, in order of declaration, each with its first cause. `RootUndeclared` exactly where the first does not declare the
+/// root; `PairsOver` exactly where, in order of declaration, the sum of listed pairs passes 2,000,000 at the element that it
+/// names; `NoMemory` where memory runs out.
+pub fn report(
+    alloc: Global,
+    first: &DeclSet,
+    second: &DeclSet,
+    root: &Name,
+) -> Result<Report, ReportFault>
+    ensures { Reports first.now second.now root.now result }
+{
+    if first.content_of(root).is_none() {
+        return Err(ReportFault::RootUndeclared);
+    }
+    let least = least(alloc, first, 0)?;
+    let live = live_names(alloc, first, &least)?;
+    let flags = useful_flags(alloc, first, &least, root)?;
+    gather(alloc, first, second, root, &least, &live, flags.as_slice())
+}
