@@ -1,5 +1,5 @@
 -- Listed pairs are those that common steps reach.
-use Rattle.std.proofs.Common.{◌≡◌, List, [], ◌∷◌, ◌++◌, ℕ, refl, sym, ap, ◌∙◌, subst, true, ◌&&◌, IsTrue}
+use Rattle.std.proofs.Common.{◌≡◌, List, [], ◌∷◌, ◌++◌, ℕ, refl, sym, ap, ◌∙◌, subst, true, ◌&&◌}
 use Rattle.std.specs.List.{list_all}
 use Rattle.std.proofs.lemmas.Bool.{and_parts}
 use Rattle.std.proofs.lemmas.List.Folds.{list_all-append}
@@ -7,7 +7,6 @@ use Rattle.content_models.specs.declared.content.Content.{Content}
 use Rattle.content_models.specs.Model.{Chars, among}
 use Rattle.position_automata.specs.Automata.{FollowsOn, Way}
 use Rattle.position_automata.proofs.States.{leads_by_ways}
-use Rattle.model_inclusion.specs.Listed.{IsListed}
 use Rattle.model_inclusion.specs.Laws.{Reached, Starts, Steps, ListedByClosure}
 
 way_more : (a : Content) (i j k : ℕ) (names : List Chars) (name : Chars) → Way a i names j → FollowsOn a j name k → Way a i (names ++ name ∷ []) k

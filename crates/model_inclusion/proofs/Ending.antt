@@ -1,7 +1,6 @@
 -- What is collected from the rows of two contents.
-use Rattle.std.proofs.Common.{◌≡◌, ◌<◌, ◌*◌, List, [], ◌∷◌, ℕ, length, get_or, Bool, true, ◌&&◌, Result, Ok, Err, IfOk, refl, sym, ap, ◌∙◌, subst}
+use Rattle.std.proofs.Common.{◌≡◌, ◌*◌, List, [], ◌∷◌, ℕ, length, Bool, ◌&&◌, Result, Ok, Err, IfOk, refl, sym, ap, ◌∙◌, subst}
 use Rattle.std.specs.List.{list_all}
-use Rattle.std.specs.Prelude.{◌≤◌, ◌↔◌}
 use Rattle.jats_chars.specs.declared.NoMemory.{NoMemory}
 use Rattle.content_models.specs.declared.content.Content.{Content}
 use Rattle.content_models.specs.Model.{Chars, among}

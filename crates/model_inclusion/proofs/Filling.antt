@@ -1,12 +1,14 @@
 -- What loops fill, one more at a time.
-use Rattle.std.proofs.Common.{◌≡◌, ◌<◌, ◌≤◌, ◌+◌, ◌/◌, ◌%◌, List, [], ◌∷◌, ◌++◌, ℕ, zero, suc, length, get_or, take, drop, Bool, true, false, cond, Option, Some, None, slice_get, refl, sym, ap, ◌∙◌, subst, arith, ◌*◌, Contains, drop-cons, add-one}
-use Rattle.std.specs.List.{filter_map}
+use Rattle.std.proofs.Common.{◌≡◌, ◌<◌, ◌+◌, ◌/◌, ◌%◌, List, [], ◌∷◌, ◌++◌, ℕ, zero, suc, length, get_or, map, take, drop, Bool, true, false, cond, Option, Some, None, slice_get, refl, sym, ap, ◌∙◌, arith, ◌*◌, Contains, drop-cons, add-one}
+use Rattle.std.specs.Prelude.{option_map}
+use Rattle.std.specs.List.{cons_option}
 use Rattle.std.proofs.lemmas.List.{take_more, append_assoc, get_or_default}
 use Rattle.std.proofs.lemmas.List.Elements.{filter_map-append}
 use Rattle.std.proofs.lemmas.Option.{slice_get-get_or}
 use Rattle.content_models.specs.declared.content.Content.{Content}
 use Rattle.content_models.specs.Model.{Chars}
-use Rattle.model_inclusion.specs.Rows.{numbered, numbered_step, asked, asked_step}
+use Rattle.position_automata.specs.Stepping.{named}
+use Rattle.model_inclusion.specs.Rows.{number_of, numbered, numbered_step, placed_step, asked, asked_step}
 use Rattle.model_inclusion.specs.Reaching.{pairs_from}
 
 got_within : {A : Type 0} (xs : List A) (k : ℕ) (x : A) → Some x ≡ slice_get xs k → (k < length xs) × (get_or xs k x ≡ x)
@@ -21,6 +23,30 @@ told_more keys steps k s row new e h n =
     n ∙ ap (λ (z : List (ℕ × ℕ)). z ++ numbered keys (s ∷ [])) e
     ∙ sym (ap (numbered keys) (take_more steps k s t.0 ∙ ap (λ (z : Chars × ℕ). take k steps ++ z ∷ []) t.1)
     ∙ filter_map-append (numbered_step keys) (take k steps) (s ∷ []))
+
+place_is : (keys names : List Chars) (numbers : List (Option ℕ)) (at next : ℕ) (s : Chars × ℕ) → numbers ≡ map (number_of keys) names → named names (Some (at, next)) ≡ Some s
+    → placed_step numbers at next ≡ numbered keys (s ∷ [])
+place_is keys names numbers at next s e h =
+    ap (λ z. placed_step z at next) e ∙ by names at (slice_get names at) refl h
+  where
+    there : (ns : List Chars) (k : ℕ) (name : Chars) → slice_get ns k ≡ Some name → get_or (map (number_of keys) ns) k None ≡ number_of keys name
+    there [] k name q = cc
+    there (n ∷ ns) zero name q = let same : n ≡ name = cc in ap (number_of keys) same
+    there (n ∷ ns) (suc k) name q = there ns k name q
+
+    by : (ns : List Chars) (k : ℕ) (o : Option Chars) → slice_get ns k ≡ o → option_map {U = Chars × ℕ} (λ name. (name, next)) o ≡ Some s → placed_step (map (number_of keys) ns) k next ≡ numbered keys (s ∷ [])
+    by ns k None q h = cc
+    by ns k (Some name) q h =
+        let same : (name, next) ≡ s = cc in
+        ap (λ o. cons_option (option_map {U = ℕ × ℕ} (λ n. (n, next)) o) []) (there ns k name q) ∙ ap (λ (z : Chars × ℕ). numbered keys (z ∷ [])) same
+
+-- one more told step, by the place of its name
+pub placed_more : (keys names : List Chars) (numbers : List (Option ℕ)) (steps : List (Chars × ℕ)) (k at next : ℕ) (row new : List (ℕ × ℕ)) → numbers ≡ map (number_of keys) names
+    → row ≡ numbered keys (take k steps) → named names (Some (at, next)) ≡ slice_get steps k → at < length names → new ≡ row ++ placed_step numbers at next → new ≡ numbered keys (take (k + 1) steps)
+placed_more keys names numbers steps k at next row new e r h l n =
+    let s : Chars × ℕ = (get_or names at [], next) in
+    let is : named names (Some (at, next)) ≡ Some s = ap (λ o. option_map {U = Chars × ℕ} (λ name. (name, next)) o) (slice_get-get_or names at [] l) in
+    told_more keys steps k s row new r (sym is ∙ h) (n ∙ ap (λ z. row ++ z) (place_is keys names numbers at next s e is))
 
 pub asked_more : (keys : List Chars) (a : Content) (i k : ℕ) (name : Chars) (row new : List (ℕ × ℕ)) → k < length keys → row ≡ asked keys a i (take k keys) → name ≡ get_or keys k name
     → new ≡ row ++ asked keys a i (name ∷ []) → new ≡ asked keys a i (take (k + 1) keys)

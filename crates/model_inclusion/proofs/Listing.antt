@@ -1,19 +1,18 @@
 -- The pairs that are reached, in order, are the listed ones.
-use Rattle.std.proofs.Common.{◌≡◌, ◌<◌, ◌≤◌, ◌+◌, ◌*◌, ◌/◌, ◌%◌, List, [], ◌∷◌, ◌++◌, ℕ, zero, suc, length, get_or, Bool, true, false, cond, Option, Some, None, inl, inr, ◌⊎◌, refl, sym, ap, ◌∙◌, subst, arith, true≢false, replicate, Contains}
+use Rattle.std.proofs.Common.{◌≡◌, ◌<◌, ◌≤◌, ◌+◌, ◌*◌, ◌/◌, ◌%◌, List, [], ◌∷◌, ℕ, zero, suc, length, get_or, Bool, true, false, Option, Some, None, inl, inr, refl, sym, ap, ◌∙◌, subst, arith, true≢false, replicate, Contains}
 use Rattle.std.specs.Prelude.{option_map}
-use Rattle.std.specs.List.{AllByRecursion}
-use Rattle.std.proofs.lemmas.Bool.{cases_Bool, cases_lt}
+use Rattle.std.proofs.lemmas.Bool.{cases_lt}
 use Rattle.std.proofs.lemmas.Nat.{div-mul-add, mod-mul-add, div_below, mod_below, div-add-mod'}
 use Rattle.std.proofs.lemmas.List.{length-replicate}
 use Rattle.std.proofs.Math.Nat.{mul-le-mul_right}
 use Rattle.content_models.specs.declared.content.Content.{Content}
-use Rattle.content_models.specs.Model.{Chars, among}
-use Rattle.position_automata.specs.Automata.{states, FollowsOn, IsDeterministic}
+use Rattle.content_models.specs.Model.{Chars}
+use Rattle.position_automata.specs.Automata.{FollowsOn, IsDeterministic}
 use Rattle.position_automata.proofs.Running.{follows_to, start_within}
-use Rattle.model_inclusion.specs.Listed.{IsListed, Precedes, IsAscending, ArePairs}
+use Rattle.model_inclusion.specs.Listed.{Precedes, IsAscending, ArePairs}
 use Rattle.model_inclusion.specs.Laws.{Reached, Starts, Steps}
-use Rattle.model_inclusion.specs.Reaching.{Member, noted, common, common_step, next, Reach, Here, There, is_seen, Reaches, StaysWithin, IsWithin, AreWithin, pairs_from}
-use Rattle.model_inclusion.specs.Rows.{number_of, IsRow, AreRows}
+use Rattle.model_inclusion.specs.Reaching.{Member, noted, common_step, next, Reach, Here, There, Reaches, StaysWithin, IsWithin, AreWithin, pairs_from}
+use Rattle.model_inclusion.specs.Rows.{AreRows}
 use Rattle.model_inclusion.proofs.Closing.{listed_by_closure}
 use Rattle.model_inclusion.proofs.Members.{to_member, contains_of, all_member, filtered_to, filtered_from}
 use Rattle.model_inclusion.proofs.Noting.{noted_to, noted_from, blank}

@@ -1,8 +1,8 @@
 -- Rows of numbered names are what follows.
-use Rattle.std.proofs.Common.{◌≡◌, ◌<◌, ◌≤◌, ◌+◌, List, [], ◌∷◌, ℕ, zero, suc, length, get_or, map, bytes_eq, Bool, true, false, cond, not, ◌||◌, Option, Some, None, inl, inr, refl, sym, ap, ◌∙◌, subst, arith, true≢false, Contains, Result, Ok, Err, IfOk}
-use Rattle.std.specs.Prelude.{option_map, position, nat_lt}
-use Rattle.std.specs.List.{list_any, position_or_len, sum_by}
-use Rattle.std.proofs.lemmas.Bool.{or_left, or_right, ltb-true, lt-ltb}
+use Rattle.std.proofs.Common.{◌≡◌, ◌<◌, ◌≤◌, ◌+◌, List, [], ◌∷◌, ℕ, zero, suc, length, get_or, bytes_eq, Bool, true, false, cond, not, ◌||◌, Option, Some, None, refl, sym, ap, ◌∙◌, subst, arith, true≢false, Contains, Result, Ok, Err, IfOk}
+use Rattle.std.specs.Prelude.{option_map}
+use Rattle.std.specs.List.{position_or_len, sum_by}
+use Rattle.std.proofs.lemmas.Bool.{or_left, or_right, lt-ltb}
 use Rattle.std.proofs.lemmas.List.Quantifiers.{position-Some}
 use Rattle.std.proofs.lemmas.List.{get_or_default}
 use Rattle.std.proofs.lemmas.List.Sums.{sum_by-cons}
@@ -11,12 +11,11 @@ use Rattle.jats_chars.specs.declared.NoMemory.{NoMemory}
 use Rattle.content_models.specs.declared.content.Content.{Content}
 use Rattle.content_models.specs.declared.content.Content.TheVariants.{Empty, Any, Mixed, Children}
 use Rattle.content_models.specs.Model.{Chars, among}
-use Rattle.position_automata.specs.Automata.{states, FollowsOn, IsDeterministic, IsSteps, IsFollows}
+use Rattle.position_automata.specs.Automata.{states, FollowsOn, IsDeterministic, IsFollows}
 use Rattle.position_automata.specs.Stepping.{TellsSteps, steps_of, step_on}
 use Rattle.position_automata.proofs.States.{one_state_follows}
 use Rattle.position_automata.proofs.Stepping.{follows_of, told_of, on_to, on_from, steps_are_told}
-use Rattle.model_inclusion.specs.Reaching.{Member}
-use Rattle.model_inclusion.specs.Rows.{number_of, numbered_step, numbered, both, asked_step, asked, StepsOn, IsRow}
+use Rattle.model_inclusion.specs.Rows.{number_of, numbered_step, numbered, both, asked_step, asked, IsRow}
 use Rattle.model_inclusion.proofs.Members.{to_member, contains_of, filtered_to, filtered_from}
 
 -- ---- numbers of names

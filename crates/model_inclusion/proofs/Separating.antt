@@ -12,7 +12,7 @@ use Rattle.position_automata.proofs.States.{one_state_follows, runs-of_way, way-
 use Rattle.position_automata.proofs.Stepping.{on_to, on_none}
 use Rattle.model_inclusion.specs.Listed.{IsListed}
 use Rattle.model_inclusion.specs.Laws.{Reached, Starts, Steps}
-use Rattle.model_inclusion.specs.Included.{Separates, Ends, Lacks, PartAt, SeparatesAtPairs}
+use Rattle.model_inclusion.specs.Included.{Separates, PartAt, SeparatesAtPairs}
 use Rattle.model_inclusion.proofs.Closing.{listed_by_closure}
 
 runs_more : (a : Content) (i k : ℕ) (u v : List Chars) → Way a i u k → Runs a k v → Runs a i (u ++ v)

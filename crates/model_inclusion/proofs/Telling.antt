@@ -6,15 +6,15 @@ use Rattle.std.proofs.lemmas.Bool.{and_parts, and_from, or_left, or_right, not-t
 use Rattle.std.proofs.lemmas.List.{get_or_default, length-replicate}
 use Rattle.content_models.specs.declared.content.Content.{Content}
 use Rattle.content_models.specs.Model.{Chars}
-use Rattle.position_automata.specs.Automata.{states, FollowsOn, Accepts, IsDeterministic, Way}
+use Rattle.position_automata.specs.Automata.{states, FollowsOn, IsDeterministic, Way}
 use Rattle.position_automata.specs.Stepping.{does_accept}
 use Rattle.position_automata.proofs.Running.{follows_to, start_within}
 use Rattle.position_automata.proofs.States.{leads_by_ways}
 use Rattle.position_automata.proofs.Stepping.{accepts_by_test}
 use Rattle.model_inclusion.specs.Listed.{ArePairs}
-use Rattle.model_inclusion.specs.Included.{Separates, Ends, TellEnds, Lacks, PartAt, lacking, do_part}
+use Rattle.model_inclusion.specs.Included.{Separates, TellEnds, Lacks, PartAt, lacking, do_part}
 use Rattle.model_inclusion.specs.Reaching.{Member, noted}
-use Rattle.model_inclusion.specs.Rows.{IsRow, AreRows}
+use Rattle.model_inclusion.specs.Rows.{AreRows}
 use Rattle.model_inclusion.proofs.Members.{to_member, contains_of}
 use Rattle.model_inclusion.proofs.Noting.{noted_to, noted_from, blank}
 use Rattle.model_inclusion.proofs.Numbers.{named, same_name, among_of, number_in, one_each}

@@ -1,5 +1,5 @@
 -- One turn of the search over two tables of rows.
-use Rattle.std.proofs.Common.{◌≡◌, ◌<◌, ◌≤◌, ◌+◌, ◌*◌, ◌/◌, ◌%◌, List, [], ◌∷◌, ◌++◌, ℕ, suc, length, get_or, set, Bool, true, false, Option, Some, None, inl, inr, refl, sym, ap, ◌∙◌, subst, arith, replicate, Contains}
+use Rattle.std.proofs.Common.{◌≡◌, ◌<◌, ◌+◌, ◌*◌, ◌/◌, ◌%◌, List, [], ◌∷◌, ◌++◌, ℕ, length, get_or, set, Bool, true, false, Option, Some, None, inl, inr, sym, ap, ◌∙◌, subst, arith, replicate, Contains}
 use Rattle.std.specs.Prelude.{option_map}
 use Rattle.std.proofs.lemmas.Bool.{cases_lt}
 use Rattle.std.proofs.lemmas.Nat.{div_below, mod_below}
@@ -8,7 +8,7 @@ use Rattle.std.proofs.Math.Seq.{get_or-append_seam}
 use Rattle.content_models.specs.declared.content.Content.{Content}
 use Rattle.content_models.specs.Model.{Chars}
 use Rattle.model_inclusion.specs.Rows.{IsRow}
-use Rattle.model_inclusion.specs.Reaching.{Member, noted, common, common_step, next, visit, unseen, Working, Reaches, StaysWithin, AreWithin}
+use Rattle.model_inclusion.specs.Reaching.{Member, noted, common, common_step, next, visit, unseen, Working, Reaches, AreWithin}
 use Rattle.model_inclusion.proofs.Listing.{pair_below, stays_within}
 use Rattle.model_inclusion.proofs.Members.{to_member, filtered_from}
 use Rattle.model_inclusion.proofs.Visit as go

@@ -1,7 +1,7 @@
 -- Ascending lists of the same pairs are one list.
-use Rattle.std.proofs.Common.{◌≡◌, ◌<◌, List, [], ◌∷◌, ℕ, ◌⊎◌, inl, inr, refl, sym, ap, ◌∙◌, subst, arith}
+use Rattle.std.proofs.Common.{◌≡◌, List, [], ◌∷◌, ℕ, inl, inr, refl, sym, ap, ◌∙◌, subst, arith}
 use Rattle.std.specs.List.{AllByRecursion}
-use Rattle.model_inclusion.specs.Listed.{Precedes, IsAscending, ArePairs}
+use Rattle.model_inclusion.specs.Listed.{Precedes, IsAscending}
 use Rattle.model_inclusion.specs.Laws.{OneList}
 use Rattle.model_inclusion.specs.Reaching.{Member}
 use Rattle.model_inclusion.proofs.Members.{to_member, contains_of, member_all}
@@ -29,7 +29,7 @@ later_in p q r ps qs e a m (inl f) =
     absurd (not_both p p k k)
 later_in p q r ps qs e a m (inr n) = n
 
-same_pairs : (ps qs : List (ℕ × ℕ)) → IsAscending ps → IsAscending qs → ((p : ℕ × ℕ) → Member p ps → Member p qs) → ((p : ℕ × ℕ) → Member p qs → Member p ps) → ps ≡ qs
+pub same_pairs : (ps qs : List (ℕ × ℕ)) → IsAscending ps → IsAscending qs → ((p : ℕ × ℕ) → Member p ps → Member p qs) → ((p : ℕ × ℕ) → Member p qs → Member p ps) → ps ≡ qs
 same_pairs [] [] a b to from = refl
 same_pairs [] (q ∷ qs) a b to from = elim (from q (inl refl)) [ ]
 same_pairs (p ∷ ps) [] a b to from = elim (to p (inl refl)) [ ]

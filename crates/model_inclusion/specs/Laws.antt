@@ -1,5 +1,5 @@
 -- What the definition of listed pairs says.
-use Rattle.std.specs.Prelude.{◌≡◌, ℕ, List, [], IsTrue, ◌↔◌}
+use Rattle.std.specs.Prelude.{◌≡◌, ℕ, List, IsTrue, ◌↔◌}
 use Rattle.content_models.specs.declared.content.Content.{Content}
 use Rattle.content_models.specs.Model.{Chars, among}
 use Rattle.position_automata.specs.Automata.{FollowsOn}

@@ -1,6 +1,6 @@
 -- Rows of steps on numbered names.
-use Rattle.std.specs.Prelude.{◌≡◌, ◌<◌, length, slice_index_or, ℕ, List, [], ◌∷◌, map, Option, Some, None, option_map, bytes_eq, position, Contains, ◌↔◌}
-use Rattle.std.specs.List.{filter_map}
+use Rattle.std.specs.Prelude.{◌≡◌, ◌<◌, length, slice_index_or, ℕ, List, [], Option, Some, None, option_map, bytes_eq, position, Contains, ◌↔◌}
+use Rattle.std.specs.List.{filter_map, cons_option}
 use Rattle.content_models.specs.declared.content.Content.{Content}
 use Rattle.content_models.specs.Model.{Chars}
 use Rattle.position_automata.specs.Automata.{states, FollowsOn}
@@ -17,6 +17,10 @@ numbered_step keys s = option_map {U = ℕ × ℕ} (λ n. (n, s.1)) (number_of k
 -- the steps on names that are keys, each with its number
 abbrev pub numbered : List Chars → List (Chars × ℕ) → List (ℕ × ℕ)
 numbered keys steps = filter_map (numbered_step keys) steps
+
+-- a step on the name at a place, where that has a number
+abbrev pub placed_step : List (Option ℕ) → ℕ → ℕ → List (ℕ × ℕ)
+placed_step numbers at next = cons_option (option_map {U = ℕ × ℕ} (λ n. (n, next)) (slice_index_or numbers at None)) []
 
 -- a number and a state, where both are there
 abbrev pub both : Option ℕ → Option ℕ → Option (ℕ × ℕ)

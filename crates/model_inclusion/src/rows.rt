@@ -1,11 +1,13 @@
 //! The steps of an automaton as rows of numbered names.
 
-ghost use Rattle.std.specs.Prelude.{◌≡◌, ◌≤◌, ◌<◌, ◌^◌, ◌++◌, ◌∷◌, [], length, IfOk, OnOk};
+ghost use Rattle.std.specs.Prelude.{◌≡◌, ◌≤◌, ◌<◌, ◌^◌, ◌++◌, ◌∷◌, [], length, map, IfOk, OnOk};
 ghost use Rattle.position_automata.specs.Automata.{states, IsFollows};
 ghost use Rattle.position_automata.specs.Stepping.{steps_of};
-ghost use Rattle.model_inclusion.specs.Rows.{numbered, asked, IsRow, AreRows};
+ghost use Rattle.position_automata.specs.Tables.{step_names};
+ghost use Rattle.model_inclusion.specs.Rows.{number_of, numbered, placed_step, asked, IsRow, AreRows};
 
 use crate::LiveNames;
+use crate::reach::noted_at;
 use jats_chars::{ListOf, Name, NoMemory};
 use position_automata::Automaton;
 use std::alloc::Global;
@@ -13,16 +15,32 @@ use std::alloc::Global;
 /// A step: the number of its name, and the state that follows.
 pub type Step = (u32, u32);
 
-/// Appends a step, where its name is live.
-fn push_step(
+/// The numbers of the names that occur in a content, in their order: each name is looked up once.
+fn numbers(
+    alloc: Global,
+    automaton: &Automaton,
     live: &LiveNames,
+) -> Result<Vec<Option<u32>>, NoMemory>
+    ensures { IfOk result (λ numbers. numbers.items ≡ map (number_of live.now) (step_names automaton.now)) }
+{
+    let names = automaton.names();
+    let mut numbers = Vec::with_capacity(alloc, names.len())?;
+    for name in names {
+        numbers.push(live.number_of(name))?;
+    }
+    Ok(numbers)
+}
+
+/// Appends a step, where the name at this place has a number.
+fn push_step(
+    numbers: &[Option<u32>],
     row: &mut ListOf<Step>,
-    name: &Name,
+    at: usize,
     next: u32,
 ) -> Result<(), NoMemory>
-    ensures { OnOk result (row.new ≡ row.old ++ numbered live.now ((name.now, next) ∷ [])) }
+    ensures { OnOk result (row.new ≡ row.old ++ placed_step numbers.now at next) }
 {
-    match live.number_of(name) {
+    match noted_at(numbers, at) {
         Some(number) => row.push((number, next)),
         None => Ok(()),
     }
@@ -33,17 +51,19 @@ fn told_row(
     alloc: Global,
     automaton: &Automaton,
     live: &LiveNames,
+    numbers: &[Option<u32>],
     state: u32,
     most: u64,
 ) -> Result<ListOf<Step>, NoMemory>
+    requires numbers { numbers.now ≡ map (number_of live.now) (step_names automaton.now) }
     requires state { state < states automaton.now }
     requires most { length (steps_of automaton.now state) ≤ most }
     ensures { IfOk result (λ row. row ≡ numbered live.now (steps_of automaton.now state)) }
 {
     let mut row = ListOf::new(alloc);
     for k in 0..most {
-        match automaton.step_of(state, k as usize) {
-            Some((name, next)) => push_step(live, &mut row, name, next)?,
+        match automaton.place_of(state, k as usize) {
+            Some((at, next)) => push_step(numbers, &mut row, at, next)?,
             None => return Ok(row),
         }
     }
@@ -91,9 +111,11 @@ fn row(
     alloc: Global,
     automaton: &Automaton,
     live: &LiveNames,
+    numbers: &[Option<u32>],
     state: u32,
     most: u64,
 ) -> Result<ListOf<Step>, NoMemory>
+    requires numbers { numbers.now ≡ map (number_of live.now) (step_names automaton.now) }
     requires state { state < states automaton.now }
     requires most { IsFollows automaton.now most }
     ensures { IfOk result (IsRow live.now automaton.now state) }
@@ -102,7 +124,7 @@ fn row(
     if most == 0 {
         asked_row(alloc, automaton, live, state)
     } else {
-        told_row(alloc, automaton, live, state, most)
+        told_row(alloc, automaton, live, numbers, state, most)
     }
 }
 
@@ -116,9 +138,11 @@ pub fn rows(
     ensures small { IfOk result (λ rows. length rows < 2 ^ 32) }
 {
     let most = automaton.follows();
+    let numbers = numbers(alloc, automaton, live)?;
     let mut rows = ListOf::new(alloc);
     for state in 0..automaton.states() {
-        rows.push(row(alloc, automaton, live, state, most)?)?;
+        let row = row(alloc, automaton, live, numbers.as_slice(), state, most)?;
+        rows.push(row)?;
     }
     Ok(rows)
 }

@@ -26,11 +26,11 @@ use Rattle.tagset_compare.specs.Reported.{CountsPairs}
 -- ---- names that are live are those with documents
 
 module _ (first : Declarations) (live : List Chars) (h : AreLive first live) where
-  each_to : (ns : List Chars) → list_all (among live) ns ≡ true → AllByRecursion (HasDocument first) ns
+  pub each_to : (ns : List Chars) → list_all (among live) ns ≡ true → AllByRecursion (HasDocument first) ns
   each_to [] t = tt
   each_to (n ∷ ns) t = let p = and_parts (among live n) (list_all (among live) ns) t in ((h n).0 p.0, each_to ns p.1)
 
-  each_from : (ns : List Chars) → AllByRecursion (HasDocument first) ns → list_all (among live) ns ≡ true
+  pub each_from : (ns : List Chars) → AllByRecursion (HasDocument first) ns → list_all (among live) ns ≡ true
   each_from [] d = refl
   each_from (n ∷ ns) d = and_from (among live n) (list_all (among live) ns) ((h n).1 d.0) (each_from ns d.1)
 

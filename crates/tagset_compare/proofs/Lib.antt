@@ -1,8 +1,13 @@
+pub mod Arrived
 pub mod Broken
 pub mod Firsts
+pub mod Gathering
 pub mod Judging
 pub mod Lively
 pub mod Numbers
 pub mod Oddly
+pub mod Once
 pub mod Reaching
+pub mod Search
+pub mod Stepped
 pub mod Subsets

@@ -63,7 +63,7 @@ module _ (set : Declarations) (least : Least) (live : List Chars) (x : IsExact s
       let p = and_parts (among live n) (list_all (among live) ns) t in
       sum_from least.cap (m n) (total least.cap m ns) ((documents_by_costs set least n x).1 ((h n).0 p.0)) (names_from ns p.1)
 
-  ends_told : (e : Chars) (a : Content) (i : ℕ) → content_in set e ≡ Some a → Decides (is_finite (p_of set least e i)) (Ends live a i)
+  pub ends_told : (e : Chars) (a : Content) (i : ℕ) → content_in set e ≡ Some a → Decides (is_finite (p_of set least e i)) (Ends live a i)
   ends_told e a i d =
       let L = x.costs.sums e a i d in (
         (λ f. elim L.1 [

@@ -2,7 +2,9 @@ pub mod Beside
 pub mod Chains
 pub mod Finite
 pub mod Firsts
+pub mod Gathered
 pub mod Judged
 pub mod Laws
 pub mod Live
 pub mod Reported
+pub mod Useful

@@ -79,3 +79,9 @@ abbrev pub OneBroken : Type 0
 OneBroken =
     (first second : Declarations) (root : Chars) (elements : List Element) (broken others : List BrokenDecl) → ListsBroken first second root elements broken
     → ListsBroken first second root elements others → broken ≡ others
+
+-- two answers are one, unless memory runs out
+abbrev pub OneReport : Type 0
+OneReport =
+    (first second : Declarations) (root : Chars) (result other : Result Report ReportFault) → Reports first second root result → Reports first second root other
+    → (result ≡ Err NoMemory → ⊥) → (other ≡ Err NoMemory → ⊥) → result ≡ other

@@ -5,7 +5,7 @@ ghost use Rattle.tagset_compare.specs.Chains.{UsefulByChains};
 ghost use Rattle.tagset_compare.specs.Finite.{DocumentsByCosts, EndsByCosts};
 ghost use Rattle.tagset_compare.specs.Firsts.{DocumentsByUseful, FirstListed, SeparatedByBreaks};
 ghost use Rattle.tagset_compare.specs.Laws.{SubsetByBreaks};
-ghost use Rattle.tagset_compare.specs.Reported.{NoneListed, OneBroken};
+ghost use Rattle.tagset_compare.specs.Reported.{NoneListed, OneBroken, OneReport};
 
 /// Where an element is not odd, items and attributes that suit the first set suit the second; where it is odd, some that
 /// suit the first do not suit the second, whatever child elements stand among them.
@@ -24,12 +24,13 @@ pub fn subset_law()
 
 /// What a report lists is one list, and it is empty exactly where every document of the first is one of the second. The
 /// first that is listed is the first useful element that breaks, and some element is useful exactly where the root has a
-/// document.
+/// document. For two sets and a root one answer is right at most, but for want of memory.
 pub fn report_law()
     ensures none { NoneListed }
     ensures one { OneBroken }
     ensures first { FirstListed }
     ensures documents { DocumentsByUseful }
+    ensures report { OneReport }
 {}
 
 /// Least costs tell which names have documents, and from which states such names lead to acceptance: those that have a

@@ -12,7 +12,8 @@ use model_inclusion::LiveNames;
 use std::alloc::Global;
 use tree_costs::{Cost, CostList, Least, LeastRow};
 
-fn is_finite(cost: Cost) -> bool
+/// Whether a cost is a number.
+pub(crate) fn is_finite(cost: Cost) -> bool
     ensures { result ≡ spec.is_finite cost }
 {
     match cost {

@@ -15,7 +15,7 @@ use Rattle.tagset_compare.specs.Reported.{PassesAt}
 use Rattle.tagset_compare.specs.declared.fault.ReportFault.{ReportFault}
 use Rattle.tagset_compare.specs.declared.fault.ReportFault.TheVariants.{RootUndeclared, PairsOver, NoMemory}
 use Rattle.tagset_compare.specs.declared.outcome.Report.{Report}
-use Rattle.tagset_compare.proofs.OneReport.{one_report}
+use Rattle.tagset_compare.proofs.Once.{one_report}
 use Rattle.tagset_tool.specs.commands.Report.{reports, reported, telling, report_lines, report_status}
 use Rattle.tagset_tool.specs.Counts.{count_lines}
 use Rattle.tagset_tool.specs.Outcomes.{IsUnique, after, answering, fitting, refusing}

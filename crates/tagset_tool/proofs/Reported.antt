@@ -13,7 +13,7 @@ use Rattle.tagset_compare.specs.declared.fault.ReportFault.TheVariants.{RootUnde
 use Rattle.tagset_compare.specs.declared.outcome.Report.{Report}
 use Rattle.tagset_compare.proofs.Broken.{none_is_listed}
 use Rattle.tagset_compare.proofs.Firsts.{documents_by_useful, first_listed, separated_by_breaks}
-use Rattle.tagset_compare.proofs.OneReport.{one_report}
+use Rattle.tagset_compare.proofs.Once.{one_report}
 use Rattle.tagset_tool.specs.Verdicts.{IsVerdict, verdict_by, verdict_of}
 use Rattle.tagset_tool.specs.commands.Compare.{FewPairs, compared, from_root, over_sets, saying}
 use Rattle.tagset_tool.specs.commands.Report.{unreported}

@@ -1,4 +1,3 @@
-use Rattle.std.proofs.Common.{arith}
 use Rattle.model_inclusion.proofs.Telling.{pair_first, pair_second}
 use Rattle.model_inclusion.proofs.parting.any_part.Goals as goal
 

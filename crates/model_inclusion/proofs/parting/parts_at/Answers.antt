@@ -1,4 +1,4 @@
-use Rattle.std.proofs.Common.{◌∙◌, sym, arith}
+use Rattle.std.proofs.Common.{◌∙◌, sym}
 use Rattle.model_inclusion.proofs.Telling.{part_alone, part_lacking, part_rows}
 use Rattle.model_inclusion.proofs.Turning.{row_is}
 use Rattle.model_inclusion.proofs.parting.parts_at.Goals as goal

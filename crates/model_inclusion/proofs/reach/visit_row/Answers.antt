@@ -1,5 +1,4 @@
-use Rattle.std.proofs.Common.{◌≡◌, ◌<◌, ◌+◌, ◌*◌, ℕ, get_or, length, sym, arith, rules}
-use Rattle.std.proofs.lemmas.List.{get_or_default}
+use Rattle.std.proofs.Common.{◌<◌, ◌+◌, ◌*◌, get_or, length, sym, rules}
 use Rattle.model_inclusion.proofs.Filling.{within_seen}
 use Rattle.model_inclusion.proofs.reach.visit_row.Goals as goal
 

@@ -1,6 +1,3 @@
-use Rattle.std.proofs.Common.{arith, ◌≡◌, List, ℕ, subst, sym}
-use Rattle.position_automata.specs.Stepping.{steps_of}
-use Rattle.model_inclusion.specs.Rows.{IsRow, numbered, asked}
 use Rattle.model_inclusion.proofs.Numbers.{few, told_row_result, asked_row_result, tells}
 use Rattle.model_inclusion.proofs.rows.row.Goals as goal
 

@@ -1,10 +1,10 @@
-use Rattle.std.proofs.Common.{arith, sym}
+use Rattle.std.proofs.Common.{arith}
 use Rattle.model_inclusion.proofs.Turning.{row_more}
 use Rattle.model_inclusion.proofs.rows.rows.Goals as goal
 
 pub loop-state-preserved : goal.loop-state-preserved
 loop-state-preserved c =
-    let f = row_more c.args.live.now c.args.automaton.now c.loop-state.state c.loop-state.rows c.push.new.self c.in_ok-row.field-0
+    let f = row_more c.args.live.now c.args.automaton.now c.loop-state.state c.loop-state.rows c.push.new.self c.in_ok-row.row
     c.loop-state.invariant.count c.loop-state.invariant.are c.in_ok-row.ensures c.in_ok-push.ensures.ok in
     record { count = f.count; are = f.are }
 

@@ -1,4 +1,4 @@
-use Rattle.std.proofs.Common.{◌≡◌, ◌++◌, ◌≤◌, drop, length}
+use Rattle.std.proofs.Common.{◌≡◌, ◌++◌, drop}
 use Rattle.model_inclusion.specs.Reaching.{pairs_from}
 use Rattle.model_inclusion.proofs.set.collect.Given as goal
 

@@ -1,5 +1,6 @@
 use Rattle.tagset_compare.proofs.Broken.{none_is_listed, one_broken}
 use Rattle.tagset_compare.proofs.Firsts.{documents_by_useful, first_listed}
+use Rattle.tagset_compare.proofs.Once.{one_report}
 use Rattle.tagset_compare.proofs.laws.report_law.Goals as goal
 
 pub returns-clause-none : goal.returns-clause-none
@@ -13,3 +14,5 @@ returns-clause-first c = first_listed
 
 pub returns-clause-documents : goal.returns-clause-documents
 returns-clause-documents c = documents_by_useful
+pub returns-clause-report : goal.returns-clause-report
+returns-clause-report c = one_report
