@@ -14,5 +14,6 @@ returns-clause-first c = first_listed
 
 pub returns-clause-documents : goal.returns-clause-documents
 returns-clause-documents c = documents_by_useful
+
 pub returns-clause-report : goal.returns-clause-report
 returns-clause-report c = one_report
