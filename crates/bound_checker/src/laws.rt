@@ -4,6 +4,7 @@ ghost use Rattle.bound_checker.specs.Beside.{OddTells};
 ghost use Rattle.bound_checker.specs.Certificates.{PrintedIsFound, PrintedReadsBack, ReadFits};
 ghost use Rattle.bound_checker.specs.Laws.{FeasibleBounds};
 ghost use Rattle.bound_checker.specs.Lines.{TextReadsBack};
+ghost use Rattle.bound_checker.specs.Reads.{FaultIsLine};
 ghost use Rattle.bound_checker.specs.Tests.{NoneIsBroken};
 
 /// Where an element is not odd, what suits the first suits the second; where it is, something is right in the first and
@@ -23,10 +24,11 @@ pub fn tests_law()
 {}
 
 /// What is printed as a certificate reads back, as lines, also between other lines, and as the text that `print_cert` gives;
-/// and what is read fits.
+/// what is read fits; and where nothing is read, a line is told that is one of the lines or missing behind the last.
 pub fn certificate_law()
     ensures printed { PrintedReadsBack }
     ensures text { TextReadsBack }
     ensures found { PrintedIsFound }
     ensures read { ReadFits }
+    ensures fault { FaultIsLine }
 {}
