@@ -46,7 +46,7 @@ cut_here t n h =
     let P : Bool → Type 0 = λ b. nat_lt (line_len t) (length t) ≡ b → Some n ≡ cond b (Some (line_len t)) None → lines_of t ≡ take n t ∷ lines_of (drop (n + 1) t) in
     on_test P (nat_lt (line_len t) (length t))
     (λ t' e h. let same : line_len t ≡ n = same_Some (line_len t) n (sym h) in
-      subst (λ n. lines_of t ≡ take n t ∷ lines_of (drop (n + 1) t)) same (cut_at t (ltb-true (line_len t) (length t) e) ∙ ap (λ k. take (line_len t) t ∷ lines_of (drop k t)) (sym (one_more (line_len t)))))
+    subst (λ n. lines_of t ≡ take n t ∷ lines_of (drop (n + 1) t)) same (cut_at t (ltb-true (line_len t) (length t) e) ∙ ap (λ k. take (line_len t) t ∷ lines_of (drop k t)) (sym (one_more (line_len t)))))
     (λ t' e h. absurd (none-some n (sym h)))
     refl h
 

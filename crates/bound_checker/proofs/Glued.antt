@@ -45,7 +45,7 @@ pub states_fault : (cap n i k : ℕ) (xs : List Chars) (whole : Result (List Sta
     → whole ≡ glued done (read_states cap (n - i) i k xs) → Gives (next (state_in cap i) k xs) left (Err fault) → Gives whole behind (Err fault)
 states_fault cap n i k xs whole done left behind fault l h g =
     faulty (next (state_in cap i) k xs) whole left behind fault (λ j e.
-      h ∙ ap (glued done) (states_next cap n i k xs l ∙ ap (λ r. and_then r (λ t. and_then (read_states cap (n - (i + 1)) (i + 1) t.1.0 t.1.1) (λ u. Ok (t.0 ∷ u.0, u.1)))) e)) g
+    h ∙ ap (glued done) (states_next cap n i k xs l ∙ ap (λ r. and_then r (λ t. and_then (read_states cap (n - (i + 1)) (i + 1) t.1.0 t.1.1) (λ u. Ok (t.0 ∷ u.0, u.1)))) e)) g
 
 pub states_more : (cap n i k : ℕ) (xs : List Chars) (whole : Result (List StateRow × Rest) ℕ) (done more : List StateRow) (row : StateRow) (left : Rest) → i < n
     → whole ≡ glued done (read_states cap (n - i) i k xs) → next (state_in cap i) k xs ≡ Ok (row, left) → more ≡ done ++ row ∷ []
@@ -76,7 +76,7 @@ pub rows_fault : (cap : ℕ) (second : Declarations) (es : List Element) (place 
     → place < length es → whole ≡ glued done (read_rows cap second (drop place es) k xs) → Gives (read_row_at cap second (slice_get es place) k xs) left (Err fault) → Gives whole behind (Err fault)
 rows_fault cap second es place k xs whole done left behind fault l h g =
     faulty (read_row_at cap second (slice_get es place) k xs) whole left behind fault (λ j e.
-      h ∙ ap (glued done) (rows_on cap second es place k xs l ∙ ap (λ r. and_then r (RowsOn cap second (drop (place + 1) es))) e)) g
+    h ∙ ap (glued done) (rows_on cap second es place k xs l ∙ ap (λ r. and_then r (RowsOn cap second (drop (place + 1) es))) e)) g
 
 pub rows_more : (cap : ℕ) (second : Declarations) (es : List Element) (place k : ℕ) (xs : List Chars) (whole : Result (List Row × Rest) ℕ) (done more : List Row) (row : Row) (left : Rest)
     → place < length es → whole ≡ glued done (read_rows cap second (drop place es) k xs) → read_row_at cap second (slice_get es place) k xs ≡ Ok (row, left) → more ≡ done ++ row ∷ []

@@ -44,8 +44,8 @@ same_left : {A : Type 0} (a : A) (u : Rest) → Within u.0 u.1 (Ok (a, u))
 same_left a u = (omega arith, refl)
 
 within_next : {A : Type 0} (f : List ℕ → Option A) (k : ℕ) (xs : List Chars) → Within k xs (next f k xs)
-within_next f k [] = (omega arith, omega arith)
-within_next f k (x ∷ xs) = by (f x)
+within_next {A = A} f k [] = (omega arith, omega arith)
+within_next {A = A} f k (x ∷ xs) = by (f x)
   where
     by : (o : Option A) → Within k (x ∷ xs) (wanted k o (λ a. Ok (a, (k + 1, xs))))
     by None = (omega arith, omega arith)
@@ -73,8 +73,8 @@ within_pairs cap a b (x ∷ xs) last k =
     begun_by P (Ok ([], (k, x ∷ xs))) (λ cs. wanted k (option_and_then (may_follow a b last) (pair_in cap cs)) F) (after (codes "pair ") x)
     (omega arith, refl)
     (λ cs. wanted_by P k (option_and_then (may_follow a b last) (pair_in cap cs)) F (omega arith, omega arith)
-      (λ y. earlier k (k + 1) (x ∷ xs) xs (F y) (omega arith) (omega arith)
-        (within_then (k + 1) xs (read_pairs cap a b xs (Some y) (k + 1)) (λ u. Ok (y ∷ u.0, u.1)) (within_pairs cap a b xs (Some y) (k + 1)) (λ u. same_left (y ∷ u.0) u.1))))
+    (λ y. earlier k (k + 1) (x ∷ xs) xs (F y) (omega arith) (omega arith)
+    (within_then (k + 1) xs (read_pairs cap a b xs (Some y) (k + 1)) (λ u. Ok (y ∷ u.0, u.1)) (within_pairs cap a b xs (Some y) (k + 1)) (λ u. same_left (y ∷ u.0) u.1))))
 
 within_row : (cap : ℕ) (second : Declarations) (e : Chars) (a : Content) (k : ℕ) (xs : List Chars) → Within k xs (read_row cap second e a k xs)
 within_row cap second e a k xs =
@@ -82,8 +82,8 @@ within_row cap second e a k xs =
     let G : Cost × Cost → List StateRow × Rest → Result (Row × Rest) ℕ = λ t u. and_then (read_pairs cap a (content_in second e) u.1.1 None u.1.0) (H t u.0) in
     within_then k xs (next (element_in cap e) k xs) (λ t. and_then (read_states cap (states a) 0 t.1.0 t.1.1) (G t.0)) (within_next (element_in cap e) k xs)
     (λ t. within_then t.1.0 t.1.1 (read_states cap (states a) 0 t.1.0 t.1.1) (G t.0) (within_states cap (states a) 0 t.1.0 t.1.1)
-      (λ u. within_then u.1.0 u.1.1 (read_pairs cap a (content_in second e) u.1.1 None u.1.0) (H t.0 u.0) (within_pairs cap a (content_in second e) u.1.1 None u.1.0)
-        (λ w. same_left (a_row t.0 u.0 w.0) w.1)))
+    (λ u. within_then u.1.0 u.1.1 (read_pairs cap a (content_in second e) u.1.1 None u.1.0) (H t.0 u.0) (within_pairs cap a (content_in second e) u.1.1 None u.1.0)
+    (λ w. same_left (a_row t.0 u.0 w.0) w.1)))
 
 within_rows : (cap : ℕ) (second : Declarations) (es : List (Chars × Content)) (k : ℕ) (xs : List Chars) → Within k xs (read_rows cap second es k xs)
 within_rows cap second [] k xs = (omega arith, refl)
@@ -97,8 +97,8 @@ body_within first second k cs x xs =
     let F : Chars × ℕ → Result Tables ℕ = λ t. and_then (read_rows t.1 second first.elements (k + 1) xs) (G t) in
     wanted_by (FaultWithin k (x ∷ xs)) k (head_in first cs) F (omega arith, omega arith)
     (λ t. fault_earlier k (k + 1) (x ∷ xs) xs (F t) (omega arith) (omega arith)
-      (fault_then (k + 1) xs (read_rows t.1 second first.elements (k + 1) xs) (G t) (within_rows t.1 second first.elements (k + 1) xs)
-        (λ u. fault_then u.1.0 u.1.1 (next end_in u.1.0 u.1.1) (λ w. Ok (the_tables t u.0)) (within_next end_in u.1.0 u.1.1) (λ w. tt))))
+    (fault_then (k + 1) xs (read_rows t.1 second first.elements (k + 1) xs) (G t) (within_rows t.1 second first.elements (k + 1) xs)
+    (λ u. fault_then u.1.0 u.1.1 (next end_in u.1.0 u.1.1) (λ w. Ok (the_tables t u.0)) (within_next end_in u.1.0 u.1.1) (λ w. tt))))
 
 from_within : (first second : Declarations) (xs : List Chars) (k : ℕ) → FaultWithin k xs (read_from first second xs k)
 from_within first second [] k = (omega arith, omega arith)
@@ -109,5 +109,6 @@ from_within first second (x ∷ xs) k =
 
 pub fault_is_line : FaultIsLine
 fault_is_line first second lines k h =
-    let t : FaultWithin 1 lines (Err {T = Tables} k) = subst (FaultWithin 1 lines) h (from_within first second lines 1) in
+    let fault : Result Tables ℕ = Err k in
+    let t : FaultWithin 1 lines fault = subst (FaultWithin 1 lines) h (from_within first second lines 1) in
     (t.0, omega (arith, t.1))

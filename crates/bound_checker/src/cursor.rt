@@ -38,7 +38,10 @@ impl<'a> Cursor<'a> {
         ensures line { result.line ≡ 1 }
     {
         let _ = text.len();
-        Cursor { rest: text, line: 1 }
+        Cursor {
+            rest: text,
+            line: 1,
+        }
     }
 
     /// The next line, or None where there are no more.

@@ -6,8 +6,8 @@ ghost use Rattle.decl_set.specs.Declarations.{content_in};
 ghost use Rattle.bound_checker.specs.Certificates as spec;
 ghost use Rattle.bound_checker.specs.Spelled.{short_numbers_in, short_pair_in};
 
-use crate::{PairRow, StateRow};
 use crate::words::{after, after_name, after_number, number, split};
+use crate::{PairRow, StateRow};
 use decl_set::DeclSet;
 use jats_chars::Name;
 use position_automata::Automaton;
@@ -105,7 +105,11 @@ fn pair(cap: u32, words: &[char]) -> Option<PairRow>
 {
     let (states, g) = split(words)?;
     let (i, j) = numbers(states)?;
-    Some(PairRow { i, j, g: cost(cap, g)? })
+    Some(PairRow {
+        i,
+        j,
+        g: cost(cap, g)?,
+    })
 }
 
 /// Whether the pair comes after the last one, if there is one.
@@ -119,7 +123,13 @@ fn comes_after(last: Option<PairRow>, pair: &PairRow) -> bool
 }
 
 /// The next pair of states of both automata, behind the last one, from what stands behind `pair ` in its line.
-fn pair_of(cap: u32, own: &Automaton, other: &Automaton, last: Option<PairRow>, words: &[char]) -> Option<PairRow>
+fn pair_of(
+    cap: u32,
+    own: &Automaton,
+    other: &Automaton,
+    last: Option<PairRow>,
+    words: &[char],
+) -> Option<PairRow>
     requires { cap ≤ 100000 }
     ensures { result ≡ option_and_then (spec.may_follow own.now (Some other.now) last) (spec.pair_in cap words.now) }
 {
@@ -138,7 +148,13 @@ fn pair_of(cap: u32, own: &Automaton, other: &Automaton, last: Option<PairRow>, 
 }
 
 /// The same, where the second set declares the element too.
-pub fn next_pair(cap: u32, own: &Automaton, other: Option<&Automaton>, last: Option<PairRow>, words: &[char]) -> Option<PairRow>
+pub fn next_pair(
+    cap: u32,
+    own: &Automaton,
+    other: Option<&Automaton>,
+    last: Option<PairRow>,
+    words: &[char],
+) -> Option<PairRow>
     requires { cap ≤ 100000 }
     ensures { result ≡ option_and_then (spec.may_follow own.now (option_copied other.entry) last) (spec.pair_in cap words.now) }
 {
