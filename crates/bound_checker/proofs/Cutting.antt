@@ -1,12 +1,12 @@
 -- Lines and words are cut.
-use Rattle.std.proofs.Common.{◌≡◌, ◌≤◌, ◌<◌, ◌+◌, ◌-◌, ◌==◌, ◌&&◌, ℕ, zero, suc, List, [], ◌∷◌, ◌++◌, Bool, true, false, cond, not, Option, Some, None, refl, sym, ap, ◌∙◌, subst, arith, length, take, drop, true≢false, append_assoc, slice_get}
-use Rattle.std.specs.Prelude.{option_and_then, option_map, position, bytes_eq, nat_lt}
+use Rattle.std.proofs.Common.{◌≡◌, ◌≤◌, ◌<◌, ◌+◌, ◌-◌, ◌==◌, ℕ, zero, suc, List, [], ◌∷◌, ◌++◌, Bool, true, false, cond, not, Option, Some, None, refl, sym, ap, ◌∙◌, subst, arith, length, take, drop, slice_get}
+use Rattle.std.specs.Prelude.{option_and_then, position, nat_lt}
 use Rattle.std.specs.List.{list_all, prefix_len}
-use Rattle.std.proofs.lemmas.Bool.{eq-eqb, eqb-true, and_parts, lt-ltb, ltb-true, ltb-false}
+use Rattle.std.proofs.lemmas.Bool.{eq-eqb, eqb-true, ltb-true, ltb-false}
 use Rattle.std.proofs.lemmas.List.{take_rest}
 use Rattle.std.proofs.lemmas.Option.{same_Some, none-some}
 use Rattle.std.specs.Cmp.Derive.{both_true}
-use Rattle.attribute_types.proofs.TextTests.{on_test, bytes_same, bytes_own, bytes_apart}
+use Rattle.attribute_types.proofs.TextTests.{on_test}
 use Rattle.bound_checker.specs.Certificates.{after, split, spaced}
 use Rattle.attlist_merge.proofs.Turns.{one_more, drop_step, drop_all}
 use Rattle.bound_checker.specs.Lines.{lines_of, onto}

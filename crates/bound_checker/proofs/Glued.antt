@@ -1,7 +1,6 @@
 -- What is read so far, and what is left to read.
-use Rattle.std.proofs.Common.{◌≡◌, ◌≤◌, ◌<◌, ◌+◌, ◌-◌, ℕ, zero, suc, List, [], ◌∷◌, ◌++◌, Option, Some, None, refl, sym, ap, ◌∙◌, subst, arith, append_assoc, append-nil, drop, length, slice_get}
-use Rattle.std.specs.Prelude.{Result, Ok, Err, option_and_then, codes}
-use Rattle.content_models.specs.declared.content.Content.{Content}
+use Rattle.std.proofs.Common.{◌≡◌, ◌≤◌, ◌<◌, ◌+◌, ◌-◌, ℕ, suc, List, [], ◌∷◌, ◌++◌, Option, Some, None, refl, sym, ap, ◌∙◌, arith, append_assoc, append-nil, drop, length, slice_get}
+use Rattle.std.specs.Prelude.{Result, Ok, Err}
 use Rattle.content_models.specs.Model.{Chars}
 use Rattle.attlist_merge.proofs.Turns.{drop_step, drop_all}
 use Rattle.decl_set.specs.Declarations.{Declarations, Element}
@@ -9,8 +8,7 @@ use Rattle.bound_checker.specs.declared.tables.Row.{Row}
 use Rattle.bound_checker.specs.declared.fault.CertFault.{CertFault}
 use Rattle.bound_checker.specs.declared.fault.CertFault.TheVariants.{Malformed, NoMemory}
 use Rattle.bound_checker.specs.declared.tables.StateRow.{StateRow}
-use Rattle.bound_checker.specs.declared.tables.PairRow.{PairRow}
-use Rattle.bound_checker.specs.Certificates.{Rest, after, and_then, wanted, begun, next, state_in, read_states, may_follow, pair_in, read_pairs, read_row, read_rows}
+use Rattle.bound_checker.specs.Certificates.{Rest, and_then, next, state_in, read_states, read_rows}
 use Rattle.bound_checker.specs.Left.{Gives, read_row_at}
 use Rattle.bound_checker.proofs.Putting.{past}
 

@@ -1,6 +1,6 @@
 -- The lines of a certificate hold no LF, so that its text has them as its lines.
-use Rattle.std.proofs.Common.{◌≡◌, ◌≤◌, ◌<◌, ◌+◌, ◌%◌, ◌^◌, ◌==◌, ◌&&◌, ℕ, List, [], ◌∷◌, ◌++◌, Bool, true, false, cond, not, Option, Some, None, inl, inr, length, refl, sym, ap, ◌∙◌, subst, arith, true≢false, append_assoc}
-use Rattle.std.specs.Prelude.{codes, Ok}
+use Rattle.std.proofs.Common.{◌≡◌, ◌≤◌, ◌<◌, ◌+◌, ◌%◌, ◌^◌, ◌==◌, ℕ, List, [], ◌∷◌, ◌++◌, Bool, true, cond, not, Option, Some, None, inl, inr, length, refl, sym, ap, ◌∙◌, subst, arith, true≢false, append_assoc}
+use Rattle.std.specs.Prelude.{codes}
 use Rattle.std.specs.List.{list_all, AllByRecursion}
 use Rattle.std.specs.Fmt.{decimal}
 use Rattle.std.specs.Cmp.Derive.{both_true}
@@ -26,7 +26,7 @@ use Rattle.bound_checker.specs.declared.tables.StateRow.{StateRow}
 use Rattle.bound_checker.specs.declared.tables.PairRow.{PairRow}
 use Rattle.bound_checker.specs.declared.tables.Row.{Row}
 use Rattle.bound_checker.specs.declared.tables.Tables.{Tables}
-use Rattle.bound_checker.specs.Tabled.{IsPair, FitsRow, FitRows, Fits}
+use Rattle.bound_checker.specs.Tabled.{IsPair, FitRows, Fits}
 use Rattle.bound_checker.specs.Certificates.{spaced, cost_text, costs_text, element_head, state_head, pair_text, state_lines, pair_lines, row_lines, cert_onto, cert_lines, read_lines, IsShort, AreShort}
 use Rattle.bound_checker.specs.Lines.{joined, onto, lines_of, IsInline, TextReadsBack, TextIsFound}
 use Rattle.bound_checker.proofs.Certificates.{printed_back, printed_found}

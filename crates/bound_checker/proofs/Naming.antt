@@ -1,5 +1,5 @@
 -- An element is sought by its name, place after place.
-use Rattle.std.proofs.Common.{◌≡◌, ◌+◌, ℕ, Bool, true, false, cond, List, [], ◌∷◌, Option, Some, None, refl, sym, ap, ◌∙◌, subst, drop, slice_get, bytes_eq}
+use Rattle.std.proofs.Common.{◌≡◌, ◌+◌, ℕ, true, false, cond, List, Option, Some, None, refl, sym, ap, ◌∙◌, drop, slice_get, bytes_eq}
 use Rattle.std.specs.Prelude.{option_map, is_some, IsTrue}
 use Rattle.std.specs.Map.{lookup}
 use Rattle.attribute_types.proofs.TextTests.{bytes_same}

@@ -6,7 +6,7 @@ use Rattle.decl_set.specs.Declarations.{Element}
 use Rattle.bound_checker.specs.declared.tables.PairRow.{PairRow}
 use Rattle.bound_checker.specs.declared.tables.Row.{Row}
 use Rattle.bound_checker.specs.declared.tables.StateRow.{StateRow}
-use Rattle.bound_checker.specs.Certificates.{state_head, costs_text, state_lines, pair_text, pair_lines, row_lines, element_head}
+use Rattle.bound_checker.specs.Certificates.{state_head, costs_text, state_lines, pair_text, pair_lines, row_lines}
 use Rattle.bound_checker.specs.Lines.{joined, PutsLine, PutsLines, row_lines_at}
 use Rattle.std.specs.Prelude.{codes}
 

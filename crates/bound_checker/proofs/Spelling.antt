@@ -11,7 +11,7 @@ use Rattle.std.proofs.lemmas.List.Quantifiers.{position-Some}
 use Rattle.std.proofs.lemmas.Fmt.{decimal_is_IsNumeral, decimal-digits_value, first_decimal, decimal_nonempty, decimal_digit}
 use Rattle.std.proofs.lemmas.Str.Parse.{numerals_by_value, tells_digits}
 use Rattle.std.proofs.lemmas.Option.{cond_some, none-some, same_Some, slice_get-get_or}
-use Rattle.attribute_types.proofs.TextTests.{on_test, bytes_same, bytes_own, bytes_apart}
+use Rattle.attribute_types.proofs.TextTests.{bytes_same}
 use Rattle.bound_checker.specs.Certificates.{number_in, after, spaced}
 use Rattle.bound_checker.specs.Spelled.{short, short_number_in, begins_number, Writes}
 use Rattle.attlist_merge.proofs.Turns.{drop_step, drop_all}

@@ -1,4 +1,4 @@
-use Rattle.std.proofs.Common.{sym, ap, ◌∙◌}
+use Rattle.std.proofs.Common.{sym, ◌∙◌}
 use Rattle.bound_checker.proofs.Cutting.{cut_some, cut_none}
 use Rattle.bound_checker.proofs.cursor.first_line.Goals as goal
 

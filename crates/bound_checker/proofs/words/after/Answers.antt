@@ -1,4 +1,4 @@
-use Rattle.std.proofs.Common.{length, refl, get_or}
+use Rattle.std.proofs.Common.{get_or}
 use Rattle.std.proofs.lemmas.Option.{slice_get-get_or}
 use Rattle.bound_checker.proofs.Cutting.{after_short}
 use Rattle.bound_checker.proofs.words.after.Goals as goal
