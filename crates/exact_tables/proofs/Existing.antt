@@ -35,8 +35,12 @@ use Rattle.exact_tables.proofs.Closing.{exact_is_feasible, start_listed, listed-
 use Rattle.bound_checker.proofs.Stepping.{accept_to, accept_from, steps_from}
 use Rattle.position_automata.proofs.Stepping.{on_to, on_none}
 use Rattle.exact_tables.proofs.Built.{parts, fin-same, step_of}
-use Rattle.exact_tables.proofs.Growing.{by-bool, by-option, same-cost, first-of, between, declared_of, told_step, has_document, least-exists, least_top-exists, one-more, least_tree_exists}
+use Rattle.exact_tables.proofs.Growing.{by-bool, same-cost, first-of, between, declared_of, told_step, has_document, least-exists, least_top-exists, one-more, least_tree_exists}
 use Rattle.exact_tables.proofs.Unique.{exact_is_own}
+
+by-option : {A : Type 0} (o : Option A) → ((x : A) × (o ≡ Some x)) ⊎ (o ≡ None)
+by-option (Some x) = inl (x, refl)
+by-option None = inr refl
 
 -- a cost that is at most a sum that bounds the size that it is, is that sum
 squeezed : (cap : ℕ) (x s : Cost) (n : ℕ) → AtMost x s → IsSmall cap s → Bounds s n → x ≡ cut cap n → x ≡ s

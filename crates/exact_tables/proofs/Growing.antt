@@ -29,10 +29,6 @@ pub by-bool : (b : Bool) → (b ≡ true) ⊎ (b ≡ false)
 by-bool true = inl refl
 by-bool false = inr refl
 
-by-option : {A : Type 0} (o : Option A) → ((x : A) × (o ≡ Some x)) ⊎ (o ≡ None)
-by-option (Some x) = inl (x, refl)
-by-option None = inr refl
-
 pub same-cost : (x y : Cost) → (x ≡ y) ⊎ (x ≡ y → ⊥)
 same-cost (Fin a) (Fin b) = elim (by-bool (a == b)) [
   | inl q ↦ inl (ap Fin (eqb-true a b q))
