@@ -27,7 +27,7 @@ fn build_at(
     requires tree { HasTree set.now least.now root.now }
     ensures { Tells set.now least.now root.now limit result }
 {
-    let _ = (set.count(), root);
+    let _ = set.count();
     let (inner, left) = match start(alloc, set, least, place, limit) {
         Err(over) => return Err(over),
         Ok(started) => started,
