@@ -98,7 +98,7 @@ few_steps set kept e i = by (slice_get set.elements e) refl
 
 -- ---- costs by places
 
-m_same : (set : Declarations) (least : Least) (name : Chars) → m_at least (place_of set name) ≡ m_of set least name
+pub m_same : (set : Declarations) (least : Least) (name : Chars) → m_at least (place_of set name) ≡ m_of set least name
 m_same set least name = by (place_of set name) refl
   where
     by : (o : Option ℕ) → place_of set name ≡ o → m_at least o ≡ option_map_or (λ row. row.m) (option_and_then (slice_get least.rows) o) Inf

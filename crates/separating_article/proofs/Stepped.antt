@@ -66,8 +66,8 @@ module _ (set : Declarations) (least : Least) where
   )
   leaves old new false is h =
       λ limit tree S.
-          let t = whole_is set least limit tree old.left old.inner is old.outer.items h.0 S in
-          (h.1 ∙ t.0, ap (λ (n : ℕ). n + written_size tree) h.2 ∙ t.1)
+      let t = whole_is set least limit tree old.left old.inner is old.outer.items h.0 S in
+      (h.1 ∙ t.0, ap (λ (n : ℕ). n + written_size tree) h.2 ∙ t.1)
 
   pub enters_on : (old new : Growing) → Enters set least old new (Ok tt) → Steps set least old new (Ok true)
   enters_on old new h = h

@@ -18,7 +18,7 @@ fn is_same(left: Cost, right: Cost) -> bool
 }
 
 /// The least size of the element at a place: none where there is no such element.
-fn m_at(least: &Least, place: Option<usize>) -> Cost
+pub fn m_at(least: &Least, place: Option<usize>) -> Cost
     ensures { result ≡ spec.m_at least.now place }
 {
     match place {
@@ -54,11 +54,7 @@ fn attains(least: &Least, e: usize, state: u32, child: (Option<usize>, u32)) -> 
     requires { least.now.cap ≤ 100000 }
     ensures { result ≡ spec.attains least.now e state child }
 {
-    let there = sum(
-        m_at(least, child.0),
-        p_at(least, e, child.1),
-        least.cap,
-    );
+    let there = sum(m_at(least, child.0), p_at(least, e, child.1), least.cap);
     is_same(p_at(least, e, state), there)
 }
 

@@ -120,12 +120,7 @@ fn leave(work: &mut Growing) -> Result<bool, NoMemory>
 }
 
 /// Takes the next step or ends an element, and answers whether there is more to do.
-fn step(
-    alloc: Global,
-    set: &DeclSet,
-    least: &Least,
-    work: &mut Growing,
-) -> Result<bool, BuildOver>
+fn step(alloc: Global, set: &DeclSet, least: &Least, work: &mut Growing) -> Result<bool, BuildOver>
     requires cap { least.now.cap ≤ 100000 }
     requires stands { spec.IsUnderWay set.now least.now work.old }
     ensures { spec.Steps set.now least.now work.old work.new result }

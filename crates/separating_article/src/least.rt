@@ -1,17 +1,43 @@
 //! The least article of an element.
 
-ghost use Rattle.std.specs.Prelude.{◌≡◌, ◌≤◌, ◌<◌, Some, slice_get};
-ghost use Rattle.tree_costs.specs.Leasts.{IsExact};
+ghost use Rattle.std.specs.Prelude.{◌≡◌, ◌≤◌, IfSome};
+ghost use Rattle.tree_costs.specs.Leasts.{IsExact, m_of};
 ghost use Rattle.separating_article.specs.Articles as spec;
 ghost use Rattle.separating_article.specs.Building.{Tells, HasTree, StandsAt};
 
 use crate::BuildOver;
+use crate::choosing::m_at;
 use crate::growing::{Growing, Started, grow, start};
 use decl_set::DeclSet;
 use document_trees::Node;
 use jats_chars::Name;
 use std::alloc::Global;
-use tree_costs::Least;
+use tree_costs::{Cost, Least};
+
+/// What the least size of an element is: none where it is not declared.
+fn cost_of(set: &DeclSet, root: &Name, least: &Least) -> Cost
+    ensures { result ≡ m_of set.now least.now root.now }
+{
+    m_at(least, set.index_of(root))
+}
+
+/// The least size of the documents of an element, or None exactly where it is no number up to the cap: where there is a
+/// number, there is a least article.
+pub fn least_size(set: &DeclSet, root: &Name, least: &Least) -> Option<u32>
+    ensures value { result ≡ spec.size_within least.now.cap (m_of set.now least.now root.now) }
+    ensures has { IfSome result (λ n. spec.HasLeast set.now least.now root.now) }
+{
+    match cost_of(set, root, least) {
+        Cost::Inf => None,
+        Cost::Fin(size) => {
+            if size <= least.cap {
+                Some(size)
+            } else {
+                None
+            }
+        }
+    }
+}
 
 /// Builds the tree of the element at a place.
 fn build_at(

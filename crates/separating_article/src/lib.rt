@@ -21,4 +21,4 @@ mod tests;
 
 pub use fault::BuildOver;
 pub use laws::{least_law, size_law};
-pub use least::least_article;
+pub use least::{least_article, least_size};
