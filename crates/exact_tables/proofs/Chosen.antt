@@ -23,13 +23,15 @@ use Rattle.tree_costs.specs.Beside.{Front, put, IsRight}
 use Rattle.decl_set.specs.Oddness.{more_text, odd_by, odd_in}
 use Rattle.bound_checker.specs.Beside.{IsWrong}
 use Rattle.tree_costs.specs.Costs.{sum}
+use Rattle.tree_costs.specs.Families.{AreExact}
 use Rattle.position_automata.specs.Runs.{Runs}
 use Rattle.position_automata.specs.Stepping.{step_on}
 use Rattle.bound_checker.specs.Tabled.{Costs}
 use Rattle.exact_tables.specs.Families.{IsExact}
 use Rattle.exact_tables.specs.Forests.{HasWrong}
 use Rattle.attlist_merge.specs.Shown.{required_of}
-use Rattle.exact_tables.specs.Chosen.{odd_atts, front_text, front_of, odd_front, past, AttainsOdd, OddFrom, ChosenOdd, ChosenNames, ChosenBy, AttainsWrong, WrongFrom, IsWritten, are_written, begins_run, has_cr, is_filled, depth, IsBuilt, LeastIsBuilt, ChosenIsBuilt}
+use Rattle.exact_tables.specs.LeastTrees.{IsWritten, are_written, begins_run, has_cr, is_filled, depth, IsBuilt, LeastTreeIsBuilt}
+use Rattle.exact_tables.specs.Chosen.{odd_atts, front_text, front_of, odd_front, past, AttainsOdd, OddFrom, ChosenOdd, ChosenNames, ChosenBy, AttainsWrong, WrongFrom, LeastIsBuilt, ChosenIsBuilt}
 use Rattle.bound_checker.proofs.Running.{runs-of}
 use Rattle.decl_set.proofs.Suiting.{met, allowed_alone}
 use Rattle.decl_set.proofs.Found.{attributes_kept, attributes_defined, element_is}
@@ -45,6 +47,7 @@ use Rattle.exact_tables.proofs.Required.{required_is_right}
 use Rattle.exact_tables.proofs.Choosing.{same-some}
 use Rattle.exact_tables.proofs.Built.{parts, fin-same, alone-written, alone-begins, IsBuiltTop, IsRow, row-more, required_top, step_of, least-row, least-top, least-size, least_top-size}
 use Rattle.exact_tables.proofs.Depth.{least-open, chosen-open}
+use Rattle.exact_tables.proofs.Unique.{exact_is_own}
 
 -- ---- a run in front
 
@@ -192,14 +195,17 @@ put-each P None items h = h
 put-each P (Some run) items h = h
 
 module _ (first second : Declarations) (cap : ℕ) (c : Costs) (kf : IsKept first) (ks : IsKept second) (X : IsExact first second cap c) where
+  abbrev O : AreExact first cap c.m c.p
+  O = exact_is_own first second cap c X
+
   -- ---- the path of G
 
   odd-row : (e : Chars) (a b : Content) (i j : ℕ) (xs : Items) → OddFrom first second cap c e a b i j xs → IsRow first a i xs
   odd-row e a b i j nothing h = record { forest = record { alone = refl; made = tt; met = tt }; run = h.1; written = tt }
   odd-row e a b i j (element n at x l) h =
-      let s = step_of first cap c kf (AttainsOdd first second cap c e b i j) a i h.0 n h.2 in
-      let r : IsRow first a h.0 l = elim h.4 [ inl u ↦ odd-row e a b h.0 u.0 l u.2 | inr u ↦ least-row first cap c kf e a h.0 l u.1 ] in
-      row-more first a i h.0 n at x l s.0 (least-top first cap c kf n at x h.3) r.forest r.run r.written
+      let s = step_of first (AttainsOdd first second cap c e b i j) a i h.0 n h.2 in
+      let r : IsRow first a h.0 l = elim h.4 [ inl u ↦ odd-row e a b h.0 u.0 l u.2 | inr u ↦ least-row first cap c.m c.p kf e a h.0 l u.1 ] in
+      row-more first a i h.0 n at x l s.0 (least-top first cap c.m c.p kf n at x h.3) r.forest r.run r.written
   odd-row e a b i j (chars t p l) h = elim h [ ]
   odd-row e a b i j (comment t l) h = elim h [ ]
   odd-row e a b i j (pi t o l) h = elim h [ ]
@@ -220,13 +226,13 @@ module _ (first second : Declarations) (cap : ℕ) (c : Costs) (kf : IsKept firs
       → elements_in xs ≡ n
   odd-size e a b i j n nothing d l q h = fin-same 0 n (sym h.0 ∙ q)
   odd-size e a b i j n (element m at x k) d l q h =
-      let s = (step_of first cap c kf (AttainsOdd first second cap c e b i j) a i h.0 m h.2).1 in
+      let s = (step_of first (AttainsOdd first second cap c e b i j) a i h.0 m h.2).1 in
       let u = parts cap (c.m m) (past first second cap c e h.0 (step_on b j m)) n l (sym s ∙ q) in
       let g = u.4 in
-      let y = least_top-size first second cap c kf ks X m u.0 at x (omega (arith, g, l)) u.2 h.3 in
+      let y = least_top-size first cap c.m c.p kf O m u.0 at x (omega (arith, g, l)) u.2 h.3 in
       let z : elements_in k ≡ u.1 = elim h.4 [
         | inl w ↦ odd-size e a b h.0 w.0 u.1 k d (omega (arith, g, l)) (sym (ap (past first second cap c e h.0) w.1) ∙ u.3) w.2
-        | inr w ↦ least-size first second cap c kf ks X e a h.0 u.1 k d (omega (arith, g, l)) (sym (ap (past first second cap c e h.0) w.0) ∙ u.3) w.1
+        | inr w ↦ least-size first cap c.m c.p kf O e a h.0 u.1 k d (omega (arith, g, l)) (sym (ap (past first second cap c e h.0) w.0) ∙ u.3) w.1
       ] in
       omega (arith, g, y, z)
   odd-size e a b i j n (chars t p k) d l q h = elim h [ ]
@@ -244,9 +250,9 @@ module _ (first second : Declarations) (cap : ℕ) (c : Costs) (kf : IsKept firs
       let list = odd_atts o (attributes_in first e) in
       let front = odd_front first second e o in
       let s = shows first second e kf ks o h.4 in
-      let r = least-row first cap c kf e a 0 inside h.7 in
+      let r = least-row first cap c.m c.p kf e a 0 inside h.7 in
       let t = topped first e a inside list front kf h.3 s.right r.forest r.run in
-      let z = least_top-size first second cap c kf ks X e n (required_of (attributes_in first e)) inside l q (a, h.3, refl, h.7) in
+      let z = least_top-size first cap c.m c.p kf O e n (required_of (attributes_in first e)) inside l q (a, h.3, refl, h.7) in
       subst (λ x. IsSplit first second e x items n) (sym h.5) (subst (λ x. IsSplit first second e list x n) (sym h.6) (record {
         top = record {
           made = t.document.0;
@@ -306,15 +312,15 @@ module _ (first second : Declarations) (cap : ℕ) (c : Costs) (kf : IsKept firs
       → IsWrongRow first second a i xs n
   wrong-row e a i n nothing d l q h = elim h [ ]
   wrong-row e a i n (element m at x k) d l q h =
-      let s = step_of first cap c kf (AttainsWrong first second cap c e i) a i h.0 m h.1 in
+      let s = step_of first (AttainsWrong first second cap c e i) a i h.0 m h.1 in
       elim h.2 [
         | inl w ↦
             let u = parts cap (c.v m) (c.p e h.0) n l (sym w.0 ∙ q) in
             let g = u.4 in
             let t = split (λ b. WrongFrom first second cap c m b 0 x) m at x u.0 (omega (arith, g, l)) u.2
             (λ b j d l q z. wrong-row m b 0 j x d l q z) w.1 in
-            let r = least-row first cap c kf e a h.0 k w.2 in
-            let y = least-size first second cap c kf ks X e a h.0 u.1 k d (omega (arith, g, l)) u.3 w.2 in
+            let r = least-row first cap c.m c.p kf e a h.0 k w.2 in
+            let y = least-size first cap c.m c.p kf O e a h.0 u.1 k d (omega (arith, g, l)) u.3 w.2 in
             let z = t.sized in
             record {
               row = row-more first a i h.0 m at x k s.0 t.top r.forest r.run r.written;
@@ -325,11 +331,11 @@ module _ (first second : Declarations) (cap : ℕ) (c : Costs) (kf : IsKept firs
             let other : c.f e i ≡ sum cap (c.m m) (c.f e h.0) = elim s.1 [ inl z ↦ absurd (w.0 z) | inr z ↦ z ] in
             let u = parts cap (c.m m) (c.f e h.0) n l (sym other ∙ q) in
             let g = u.4 in
-            let y = least_top-size first second cap c kf ks X m u.0 at x (omega (arith, g, l)) u.2 w.1 in
+            let y = least_top-size first cap c.m c.p kf O m u.0 at x (omega (arith, g, l)) u.2 w.1 in
             let r = wrong-row e a h.0 u.1 k d (omega (arith, g, l)) u.3 w.2 in
             let z = r.sized in
             record {
-              row = row-more first a i h.0 m at x k s.0 (least-top first cap c kf m at x w.1) r.row.forest r.row.run r.row.written;
+              row = row-more first a i h.0 m at x k s.0 (least-top first cap c.m c.p kf m at x w.1) r.row.forest r.row.run r.row.written;
               wrong = inr r.wrong;
               sized = omega (arith, g, y, z);
             }
@@ -346,9 +352,9 @@ module _ (first second : Declarations) (cap : ℕ) (c : Costs) (kf : IsKept firs
 -- ---- the laws
 
 -- a node that is right and of this size
-built : (set : Declarations) (e : Chars) (n : ℕ) (node : Node) → node.name ≡ e → IsBuiltTop set e node.atts node.items → 1 + elements_in node.items ≡ n
-    → 1 + depth node.items ≤ 2048 → IsBuilt set e n node
-built set e n node q t s w =
+built : (open_ones : ℕ) (set : Declarations) (e : Chars) (n : ℕ) (node : Node) → node.name ≡ e → IsBuiltTop set e node.atts node.items → 1 + elements_in node.items ≡ n
+    → 1 + depth node.items ≤ open_ones → IsBuilt open_ones set e n node
+built open_ones set e n node q t s w =
     let r = subst (λ (x : Chars). IsBuiltTop set x node.atts node.items) (sym q) t in
     record {
       document = (r.made, r.made_below);
@@ -358,15 +364,18 @@ built set e n node q t s w =
       shallow = w;
     }
 
+pub least_tree_is_built : LeastTreeIsBuilt
+least_tree_is_built set cap m p kept X e n l q node h =
+    built 1024 set e n node h.0 (least-top set cap m p kept e node.atts node.items h.1) (least_top-size set cap m p kept X e n node.atts node.items l q h.1)
+    (least-open set cap m p kept X e n node.atts node.items l q h.1)
+
 pub least_is_built : LeastIsBuilt
-least_is_built first second cap c kf ks X e n l q node h =
-    built first e n node h.0 (least-top first cap c kf e node.atts node.items h.1) (least_top-size first second cap c kf ks X e n node.atts node.items l q h.1)
-    (least-open first second cap c kf ks X e n node.atts node.items l q h.1)
+least_is_built first second cap c kf ks X = least_tree_is_built first cap c.m c.p kf (exact_is_own first second cap c X)
 
 pub chosen_is_built : ChosenIsBuilt
 chosen_is_built first second cap c kf ks X e n l q node h =
     let t = chosen_split first second cap c kf ks X e node.atts node.items n l q h.1 in
-    let b = built first e n node h.0 t.top t.sized (chosen-open first second cap c kf ks X e n node.atts node.items l q h.1) in (
+    let b = built 2048 first e n node h.0 t.top t.sized (chosen-open first second cap c kf X e n node.atts node.items l q h.1) in (
       b,
       (
         b.document,

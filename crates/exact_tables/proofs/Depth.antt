@@ -12,13 +12,16 @@ use Rattle.tree_costs.specs.declared.cost.Cost.{Cost}
 use Rattle.tree_costs.specs.declared.cost.Cost.TheVariants.{Fin, Inf}
 use Rattle.tree_costs.specs.Beside.{Front, put}
 use Rattle.tree_costs.specs.Costs.{sum}
+use Rattle.tree_costs.specs.Families.{AreExact}
 use Rattle.bound_checker.specs.Tabled.{Costs}
 use Rattle.exact_tables.specs.Families.{IsExact}
 use Rattle.position_automata.specs.Stepping.{step_on}
 use Rattle.attlist_merge.specs.Shown.{required_of}
-use Rattle.exact_tables.specs.Chosen.{odd_front, AttainsLeast, LeastFrom, IsLeastTop, past, AttainsOdd, OddFrom, ChosenBy, AttainsWrong, WrongFrom, IsChosenTop, depth}
+use Rattle.exact_tables.specs.LeastTrees.{AttainsLeast, LeastFrom, IsLeastTop, depth}
+use Rattle.exact_tables.specs.Chosen.{odd_front, past, AttainsOdd, OddFrom, ChosenBy, AttainsWrong, WrongFrom, IsChosenTop}
 use Rattle.bound_checker.proofs.Stepping.{declared_member}
 use Rattle.exact_tables.proofs.Built.{parts, fin-same, step_of, start-of}
+use Rattle.exact_tables.proofs.Unique.{exact_is_own}
 
 -- ---- how many elements cost less than a number
 
@@ -86,46 +89,53 @@ put-depth (Some run) items = refl
 deeper : (name : Chars) (atts : List Attribute) (inside later : Items) (n : ℕ) → 1 + depth inside ≤ n → depth later ≤ n → depth (element name atts inside later) ≤ n
 deeper name atts inside later n h g = omega (arith, h, g)
 
-module _ (first second : Declarations) (cap : ℕ) (c : Costs) (kf : IsKept first) (ks : IsKept second) (X : IsExact first second cap c) where
-  -- ---- least trees
+-- ---- least trees
 
-  least-depth : (e : Chars) (a : Content) (i n : ℕ) (xs : Items) → content_in first e ≡ Some a → n ≤ cap → c.p e i ≡ Fin n → LeastFrom first cap c e a i xs
-      → depth xs ≤ count c.m (n + 1) first.elements
+module _ (set : Declarations) (cap : ℕ) (m : Chars → Cost) (p : Chars → ℕ → Cost) (kept : IsKept set) (X : AreExact set cap m p) where
+  least-depth : (e : Chars) (a : Content) (i n : ℕ) (xs : Items) → content_in set e ≡ Some a → n ≤ cap → p e i ≡ Fin n → LeastFrom set cap m p e a i xs
+      → depth xs ≤ count m (n + 1) set.elements
   least-depth e a i n nothing d l q h = omega arith
-  least-depth e a i n (element m at x k) d l q h =
-      let s = (step_of first cap c kf (AttainsLeast first cap c e i) a i h.0 m h.3).1 in
-      let u = parts cap (c.m m) (c.p e h.0) n l (sym s ∙ q) in
+  least-depth e a i n (element name at x k) d l q h =
+      let s = (step_of set (AttainsLeast set cap m p e i) a i h.0 name h.3).1 in
+      let u = parts cap (m name) (p e h.0) n l (sym s ∙ q) in
       let g = u.4 in
-      let t = start-of first second cap c kf ks X m h.1 u.0 h.5 (omega (arith, g, l)) u.2 in
+      let t = start-of set cap m p kept X name h.1 u.0 h.5 (omega (arith, g, l)) u.2 in
       let w = t.2 in
-      let y = least-depth m h.1 0 t.0 x h.5 (omega (arith, g, l, w)) t.1 h.6 in
+      let y = least-depth name h.1 0 t.0 x h.5 (omega (arith, g, l, w)) t.1 h.6 in
       let z = least-depth e a h.0 u.1 k d (omega (arith, g, l)) u.3 h.7 in
-      let r = count-more c.m u.0 first.elements m h.1 (declared_member first.elements m h.1 h.5) u.2 in
-      let y2 = subst (λ v. depth x ≤ count c.m v first.elements) (let v : t.0 + 1 ≡ u.0 = omega (arith, w) in v) y in
-      let up = count-mono c.m (u.0 + 1) (n + 1) first.elements (omega (arith, g)) in
-      let over = count-mono c.m (u.1 + 1) (n + 1) first.elements (omega (arith, g)) in
-      deeper m at x k (count c.m (n + 1) first.elements) (omega (arith, y2, r, up)) (omega (arith, z, over))
-  least-depth e a i n (chars t p k) d l q h = elim h [ ]
+      let r = count-more m u.0 set.elements name h.1 (declared_member set.elements name h.1 h.5) u.2 in
+      let y2 = subst (λ v. depth x ≤ count m v set.elements) (let v : t.0 + 1 ≡ u.0 = omega (arith, w) in v) y in
+      let up = count-mono m (u.0 + 1) (n + 1) set.elements (omega (arith, g)) in
+      let over = count-mono m (u.1 + 1) (n + 1) set.elements (omega (arith, g)) in
+      deeper name at x k (count m (n + 1) set.elements) (omega (arith, y2, r, up)) (omega (arith, z, over))
+  least-depth e a i n (chars t r k) d l q h = elim h [ ]
   least-depth e a i n (comment t k) d l q h = elim h [ ]
   least-depth e a i n (pi t b k) d l q h = elim h [ ]
 
   -- a row of least trees is no deeper than there are elements
-  least-most : (e : Chars) (a : Content) (i n : ℕ) (xs : Items) → content_in first e ≡ Some a → n ≤ cap → c.p e i ≡ Fin n → LeastFrom first cap c e a i xs
-      → depth xs ≤ length first.elements
+  pub least-most : (e : Chars) (a : Content) (i n : ℕ) (xs : Items) → content_in set e ≡ Some a → n ≤ cap → p e i ≡ Fin n → LeastFrom set cap m p e a i xs
+      → depth xs ≤ length set.elements
   least-most e a i n xs d l q h =
       let y = least-depth e a i n xs d l q h in
-      let m = count-most c.m (n + 1) first.elements in
-      omega (arith, y, m)
+      let o = count-most m (n + 1) set.elements in
+      omega (arith, y, o)
 
-  pub top-most : (e : Chars) (n : ℕ) (at : List Attribute) (x : Items) → n ≤ cap → c.m e ≡ Fin n → IsLeastTop first cap c e at x → 1 + depth x ≤ length first.elements
+  pub top-most : (e : Chars) (n : ℕ) (at : List Attribute) (x : Items) → n ≤ cap → m e ≡ Fin n → IsLeastTop set cap m p e at x → 1 + depth x ≤ length set.elements
   top-most e n at x l q h =
-      let t = start-of first second cap c kf ks X e h.0 n h.1 l q in
+      let t = start-of set cap m p kept X e h.0 n h.1 l q in
       let w = t.2 in
       let y = least-depth e h.0 0 t.0 x h.1 (omega (arith, l, w)) t.1 h.3 in
-      let y2 = subst (λ v. depth x ≤ count c.m v first.elements) (let v : t.0 + 1 ≡ n = omega (arith, w) in v) y in
-      let r = count-more c.m n first.elements e h.0 (declared_member first.elements e h.0 h.1) q in
-      let m = count-most c.m (n + 1) first.elements in
-      omega (arith, y2, r, m)
+      let y2 = subst (λ v. depth x ≤ count m v set.elements) (let v : t.0 + 1 ≡ n = omega (arith, w) in v) y in
+      let r = count-more m n set.elements e h.0 (declared_member set.elements e h.0 h.1) q in
+      let o = count-most m (n + 1) set.elements in
+      omega (arith, y2, r, o)
+
+  pub least-open : (e : Chars) (n : ℕ) (at : List Attribute) (x : Items) → n ≤ cap → m e ≡ Fin n → IsLeastTop set cap m p e at x → 1 + depth x ≤ 1024
+  least-open e n at x l q h = let y = top-most e n at x l q h in let f = kept.few in omega (arith, y, f)
+
+module _ (first second : Declarations) (cap : ℕ) (c : Costs) (kf : IsKept first) (X : IsExact first second cap c) where
+  abbrev O : AreExact first cap c.m c.p
+  O = exact_is_own first second cap c X
 
   -- ---- the path of G
 
@@ -133,13 +143,13 @@ module _ (first second : Declarations) (cap : ℕ) (c : Costs) (kf : IsKept firs
       → depth xs ≤ length first.elements
   odd-most e a b i j n nothing d l q h = omega arith
   odd-most e a b i j n (element m at x k) d l q h =
-      let s = (step_of first cap c kf (AttainsOdd first second cap c e b i j) a i h.0 m h.2).1 in
+      let s = (step_of first (AttainsOdd first second cap c e b i j) a i h.0 m h.2).1 in
       let u = parts cap (c.m m) (past first second cap c e h.0 (step_on b j m)) n l (sym s ∙ q) in
       let g = u.4 in
-      let y = top-most m u.0 at x (omega (arith, g, l)) u.2 h.3 in
+      let y = top-most first cap c.m c.p kf O m u.0 at x (omega (arith, g, l)) u.2 h.3 in
       let z : depth k ≤ length first.elements = elim h.4 [
         | inl w ↦ odd-most e a b h.0 w.0 u.1 k d (omega (arith, g, l)) (sym (ap (past first second cap c e h.0) w.1) ∙ u.3) w.2
-        | inr w ↦ least-most e a h.0 u.1 k d (omega (arith, g, l)) (sym (ap (past first second cap c e h.0) w.0) ∙ u.3) w.1
+        | inr w ↦ least-most first cap c.m c.p kf O e a h.0 u.1 k d (omega (arith, g, l)) (sym (ap (past first second cap c e h.0) w.0) ∙ u.3) w.1
       ] in
       deeper m at x k (length first.elements) y z
   odd-most e a b i j n (chars t p k) d l q h = elim h [ ]
@@ -157,7 +167,7 @@ module _ (first second : Declarations) (cap : ℕ) (c : Costs) (kf : IsKept firs
       → ChosenBy first second cap c W e atts items → 1 + depth items ≤ reach (n + 1)
   split-depth W e atts items n l q f (inl h) =
       let o = h.1 in
-      let y = top-most e n (required_of (attributes_in first e)) o.2 l (sym h.0.1 ∙ q) (o.0, o.3, refl, o.7) in
+      let y = top-most first cap c.m c.p kf O e n (required_of (attributes_in first e)) o.2 l (sym h.0.1 ∙ q) (o.0, o.3, refl, o.7) in
       let z : depth items ≡ depth o.2 = ap depth o.6 ∙ put-depth (odd_front first second e o.1) o.2 in
       omega (arith, y, z)
   split-depth W e atts items n l q f (inr h) = elim h.1 [
@@ -181,21 +191,21 @@ module _ (first second : Declarations) (cap : ℕ) (c : Costs) (kf : IsKept firs
       → depth xs ≤ reach (n + 1)
   wrong-depth e a i n nothing d l q h = elim h [ ]
   wrong-depth e a i n (element m at x k) d l q h =
-      let s = step_of first cap c kf (AttainsWrong first second cap c e i) a i h.0 m h.1 in
+      let s = step_of first (AttainsWrong first second cap c e i) a i h.0 m h.1 in
       elim h.2 [
         | inl w ↦
             let u = parts cap (c.v m) (c.p e h.0) n l (sym w.0 ∙ q) in
             let g = u.4 in
             let t = split-depth (λ b. WrongFrom first second cap c m b 0 x) m at x u.0 (omega (arith, g, l)) u.2
             (λ b j t v y z. wrong-depth m b 0 j x t (omega (arith, g, l, v)) y z) w.1 in
-            let r = least-most e a h.0 u.1 k d (omega (arith, g, l)) u.3 w.2 in
+            let r = least-most first cap c.m c.p kf O e a h.0 u.1 k d (omega (arith, g, l)) u.3 w.2 in
             let up = count-mono c.v (u.0 + 1) (n + 1) first.elements (omega (arith, g)) in
             deeper m at x k (reach (n + 1)) (omega (arith, t, up)) (omega (arith, r))
         | inr w ↦
             let other : c.f e i ≡ sum cap (c.m m) (c.f e h.0) = elim s.1 [ inl z ↦ absurd (w.0 z) | inr z ↦ z ] in
             let u = parts cap (c.m m) (c.f e h.0) n l (sym other ∙ q) in
             let g = u.4 in
-            let y = top-most m u.0 at x (omega (arith, g, l)) u.2 w.1 in
+            let y = top-most first cap c.m c.p kf O m u.0 at x (omega (arith, g, l)) u.2 w.1 in
             let r = wrong-depth e a h.0 u.1 k d (omega (arith, g, l)) u.3 w.2 in
             let up = count-mono c.v (u.1 + 1) (n + 1) first.elements (omega (arith, g)) in
             deeper m at x k (reach (n + 1)) (omega (arith, y)) (omega (arith, r, up))
@@ -203,9 +213,6 @@ module _ (first second : Declarations) (cap : ℕ) (c : Costs) (kf : IsKept firs
   wrong-depth e a i n (chars t p k) d l q h = elim h [ ]
   wrong-depth e a i n (comment t k) d l q h = elim h [ ]
   wrong-depth e a i n (pi t b k) d l q h = elim h [ ]
-
-  pub least-open : (e : Chars) (n : ℕ) (at : List Attribute) (x : Items) → n ≤ cap → c.m e ≡ Fin n → IsLeastTop first cap c e at x → 1 + depth x ≤ 2048
-  least-open e n at x l q h = let y = top-most e n at x l q h in let f = kf.few in omega (arith, y, f)
 
   pub chosen-open : (e : Chars) (n : ℕ) (at : List Attribute) (x : Items) → n ≤ cap → c.v e ≡ Fin n → IsChosenTop first second cap c e at x → 1 + depth x ≤ 2048
   chosen-open e n at x l q h =

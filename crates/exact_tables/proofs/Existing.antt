@@ -1,4 +1,4 @@
--- Where costs are numbers up to the cap there are least and chosen trees.
+-- Where costs are numbers up to the cap there are chosen trees.
 use Rattle.std.proofs.Common.{◌≡◌, ◌==◌, List, [], ◌∷◌, ◌++◌, ℕ, zero, suc, ◌+◌, ◌≤◌, ◌<◌, ◌⊎◌, inl, inr, refl, sym, ap, ◌∙◌, subst, arith, Bool, true, false, Option, Some, None}
 use Rattle.std.specs.Prelude.{is_some}
 use Rattle.std.proofs.lemmas.Bool.{both_ways, eqb-true, eq-eqb}
@@ -15,6 +15,7 @@ use Rattle.tree_costs.specs.declared.cost.Cost.TheVariants.{Fin, Inf}
 use Rattle.decl_set.specs.declared.breaks.Odd.{Odd}
 use Rattle.decl_set.specs.Oddness.{odd_in}
 use Rattle.tree_costs.specs.Beside.{put}
+use Rattle.tree_costs.specs.Families.{AreExact}
 use Rattle.tree_costs.specs.Costs.{Bounds, AtMost, cut, sum, total, IsSmall}
 use Rattle.exact_tables.specs.Families.{total_with, IsListed, IsExact}
 use Rattle.position_automata.specs.Runs.{Runs}
@@ -23,7 +24,8 @@ use Rattle.decl_set.specs.Steps.{steps_in}
 use Rattle.bound_checker.specs.Tabled.{Costs}
 use Rattle.bound_checker.specs.Kinds.{Feasible}
 use Rattle.attlist_merge.specs.Shown.{required_of}
-use Rattle.exact_tables.specs.Chosen.{IsFirst, odd_atts, odd_front, AttainsLeast, LeastFrom, IsLeastTop, past, AttainsOdd, StopsOdd, OddFrom, AttainsKind11, AttainsKind10, AttainsKind9, AttainsWrong, WrongFrom, IsChosenTop, LeastExists, ChosenExists}
+use Rattle.exact_tables.specs.LeastTrees.{IsFirst}
+use Rattle.exact_tables.specs.Chosen.{odd_atts, odd_front, past, AttainsOdd, StopsOdd, OddFrom, AttainsKind11, AttainsKind10, AttainsKind9, AttainsWrong, WrongFrom, IsChosenTop, LeastExists, ChosenExists}
 use Rattle.tree_costs.proofs.Costs.{at_most-antisym, bounds-sum, sum-mono, sum-is, below-cut, attained-is}
 use Rattle.bound_checker.proofs.Running.{runs-of, derives-of}
 use Rattle.decl_set.proofs.Suiting.{met, meets, suited}
@@ -32,41 +34,13 @@ use Rattle.bound_checker.proofs.Sound.{m-bounds, g-bounds, f-bounds}
 use Rattle.exact_tables.proofs.Closing.{exact_is_feasible, start_listed, listed-more}
 use Rattle.bound_checker.proofs.Stepping.{accept_to, accept_from, steps_from}
 use Rattle.position_automata.proofs.Stepping.{on_to, on_none}
-use Rattle.exact_tables.proofs.Built.{parts, fin-same, step_of, start-of}
-
--- ---- what is decided
-
-pub by-bool : (b : Bool) → (b ≡ true) ⊎ (b ≡ false)
-by-bool true = inl refl
-by-bool false = inr refl
+use Rattle.exact_tables.proofs.Built.{parts, fin-same, step_of}
+use Rattle.exact_tables.proofs.Growing.{by-bool, same-cost, first-of, between, declared_of, told_step, has_document, least-exists, least_top-exists, one-more, least_tree_exists}
+use Rattle.exact_tables.proofs.Unique.{exact_is_own}
 
 by-option : {A : Type 0} (o : Option A) → ((x : A) × (o ≡ Some x)) ⊎ (o ≡ None)
 by-option (Some x) = inl (x, refl)
 by-option None = inr refl
-
-same-cost : (x y : Cost) → (x ≡ y) ⊎ (x ≡ y → ⊥)
-same-cost (Fin a) (Fin b) = elim (by-bool (a == b)) [
-  | inl q ↦ inl (ap Fin (eqb-true a b q))
-  | inr q ↦ inr (λ e. both_ways (a == b) q (eq-eqb a b (fin-same a b e)))
-]
-same-cost (Fin a) Inf = inr (λ e. cc)
-same-cost Inf (Fin b) = inr (λ e. cc)
-same-cost Inf Inf = inl refl
-
--- where a member passes there is a first that does
-first-of : {A : Type 0} (P : A → Type 0) → ((x : A) → P x ⊎ (P x → ⊥)) → (x : A) (xs : List A) → Member x xs → P x → (y : A) × IsFirst P y xs
-first-of P dec x [] m p = elim m [ ]
-first-of P dec x (y ∷ ys) m p = elim (dec y) [
-  | inl h ↦ (y, inl (h, refl))
-  | inr n ↦ elim m [
-    | inl q ↦ absurd (n (subst P q p))
-    | inr k ↦ (let t = first-of P dec x ys k p in (t.0, inr (n, t.1)))
-  ]
-]
-
--- a cost between two sums of which the first is at most the other
-between : (cap : ℕ) (x c d e : Cost) → AtMost x (sum cap c d) → AtMost d e → x ≡ sum cap c e → x ≡ sum cap c d
-between cap x c d e l h q = at_most-antisym x (sum cap c d) l (subst (AtMost (sum cap c d)) (sym q) (sum-mono cap c d e h))
 
 -- a cost that is at most a sum that bounds the size that it is, is that sum
 squeezed : (cap : ℕ) (x s : Cost) (n : ℕ) → AtMost x s → IsSmall cap s → Bounds s n → x ≡ cut cap n → x ≡ s
@@ -76,84 +50,14 @@ module _ (first second : Declarations) (cap : ℕ) (c : Costs) (kf : IsKept firs
   abbrev F : Feasible first second cap c
   F = exact_is_feasible first second cap c kf ks X
 
-  -- ---- an element whose cost is a number is declared
-
-  has_document : (e : Chars) (n : ℕ) → c.m e ≡ Fin n → HasDocument first e
-  has_document e n q = elim (X.m e).1 [
-    | inl z ↦ absurd (let w : Fin n ≡ Inf = sym q ∙ z in cc)
-    | inr t ↦ (t.0, t.1, t.2)
-  ]
+  abbrev O : AreExact first cap c.m c.p
+  O = exact_is_own first second cap c X
 
   has_separating : (e : Chars) (n : ℕ) → c.v e ≡ Fin n → HasDocument first e
   has_separating e n q = elim (X.v e).1 [
     | inl z ↦ absurd (let w : Fin n ≡ Inf = sym q ∙ z in cc)
     | inr t ↦ (t.0, t.1.0, t.1.1)
   ]
-
-  declared_of : (e : Chars) → HasDocument first e → (a : Content) × (content_in first e ≡ Some a)
-  declared_of e h =
-      let node = h.0 in
-      let t = met first node.name node.atts node.items h.2.1.0 in
-      (t.content, subst (λ (x : Chars). content_in first x ≡ Some t.content) h.2.0 t.declared)
-
-  told_step : (a b : Content) (i k : ℕ) (name : Chars) → content_in first name ≡ Some b → FollowsOn a i name k → Member (name, k) (steps_in first a i)
-  told_step a b i k name d f = elim (steps_from first a i k name f) [
-    | inl m ↦ m
-    | inr q ↦ absurd (let w : Some b ≡ None = sym d ∙ q in cc)
-  ]
-
-  -- ---- least trees
-
-  least-step : (n : ℕ) (e : Chars) (a : Content) (i : ℕ) → content_in first e ≡ Some a → n ≤ cap → c.p e i ≡ Fin n → (Accepts a i → ⊥)
-      → (s : Chars × ℕ) × IsFirst (AttainsLeast first cap c e i) s (steps_in first a i)
-  least-step n e a i d l q nay = elim (X.p e a i d).1 [
-    | inl z ↦ absurd (let w : Fin n ≡ Inf = sym q ∙ z in cc)
-    | inr t ↦ go t.0 t.1 t.2
-  ]
-    where
-      go : (names : List Chars) → Runs a i names → c.p e i ≡ total cap c.m names → (s : Chars × ℕ) × IsFirst (AttainsLeast first cap c e i) s (steps_in first a i)
-      go [] r z = absurd (nay r)
-      go (x ∷ xs) r z =
-          let u = parts cap (c.m x) (total cap c.m xs) n l (sym z ∙ q) in
-          let b = declared_of x (has_document x u.0 u.2) in
-          first-of (AttainsLeast first cap c e i) (λ s. same-cost (c.p e i) (sum cap (c.m s.0) (c.p e s.1))) (x, r.0) (steps_in first a i)
-          (told_step a b.0 i r.0 x b.1 r.1)
-          (between cap (c.p e i) (c.m x) (c.p e r.0) (total cap c.m xs) (F.k2 e x a i r.0 d r.1) ((X.p e a r.0 d).0 (total cap c.m xs) (xs, r.2, refl)) z)
-
-  -- the number is below the first one
-  least-exists : (fuel n : ℕ) (e : Chars) (a : Content) (i : ℕ) → content_in first e ≡ Some a → n ≤ cap → n < fuel → c.p e i ≡ Fin n
-      → (xs : Items) × LeastFrom first cap c e a i xs
-  least-exists zero n e a i d l k q = absurd (omega (arith, k))
-  least-exists (suc fuel) n e a i d l k q = elim (by-bool (does_accept a i)) [
-    | inl z ↦ (nothing, accept_to a i z)
-    | inr z ↦
-        let nay : Accepts a i → ⊥ = λ h. both_ways (does_accept a i) z (accept_from a i h) in
-        let s = least-step n e a i d l q nay in
-        let f = step_of first cap c kf (AttainsLeast first cap c e i) a i s.0.1 s.0.0 s.1 in
-        let u = parts cap (c.m s.0.0) (c.p e s.0.1) n l (sym f.1 ∙ q) in
-        let g = u.4 in
-        let b = declared_of s.0.0 (has_document s.0.0 u.0 u.2) in
-        let t = start-of first second cap c kf ks X s.0.0 b.0 u.0 b.1 (omega (arith, g, l)) u.2 in
-        let w = t.2 in
-        let x = least-exists fuel t.0 s.0.0 b.0 0 b.1 (omega (arith, g, w, l)) (omega (arith, g, w, k)) t.1 in
-        let y = least-exists fuel u.1 e a s.0.1 d (omega (arith, g, l)) (omega (arith, g, w, k)) u.3 in
-        (element s.0.0 (required_of (attributes_in first s.0.0)) x.0 y.0, (s.0.1, b.0, nay, s.1, refl, b.1, x.1, y.1))
-  ]
-
-  pub least_top-exists : (n : ℕ) (e : Chars) → n ≤ cap → c.m e ≡ Fin n → (x : Items) × IsLeastTop first cap c e (required_of (attributes_in first e)) x
-  least_top-exists n e l q =
-      let b = declared_of e (has_document e n q) in
-      let t = start-of first second cap c kf ks X e b.0 n b.1 l q in
-      let w = t.2 in
-      let x = least-exists (suc t.0) t.0 e b.0 0 b.1 (omega (arith, w, l)) (omega arith) t.1 in
-      (x.0, (b.0, b.1, refl, x.1))
-
-  -- an element has at least one
-  one-more : (n : ℕ) (e : Chars) → n ≤ cap → c.m e ≡ Fin n → 1 ≤ n
-  one-more n e l q =
-      let b = declared_of e (has_document e n q) in
-      let w = (start-of first second cap c kf ks X e b.0 n b.1 l q).2 in
-      omega (arith, w)
 
   -- ---- the path of G
 
@@ -192,10 +96,10 @@ module _ (first second : Declarations) (cap : ℕ) (c : Costs) (kf : IsKept firs
       go [] r w z = absurd (nay (z, r, w))
       go (x ∷ xs) r w z =
           let u = parts cap (c.m x) (total cap c.m xs) n l (sym z ∙ q) in
-          let h = has_document x u.0 u.2 in
-          let y = declared_of x h in
+          let h = has_document first cap c.m c.p kf O x u.0 u.2 in
+          let y = declared_of first x h in
           first-of (AttainsOdd first second cap c e b i j) (λ s. same-cost (c.g e i j) (sum cap (c.m s.0) (past first second cap c e s.1 (step_on b j s.0)))) (x, r.0)
-          (steps_in first a i) (told_step a y.0 i r.0 x y.1 r.1)
+          (steps_in first a i) (told_step first a y.0 i r.0 x y.1 r.1)
           (odd-attained e a b i j r.0 x xs d s p h r.1 r.2 w z (step_on b j x) refl)
 
   odd-exists : (fuel n : ℕ) (e : Chars) (a b : Content) (i j : ℕ) → content_in first e ≡ Some a → content_in second e ≡ Some b → IsListed first a b i j
@@ -205,19 +109,19 @@ module _ (first second : Declarations) (cap : ℕ) (c : Costs) (kf : IsKept firs
     | inl h ↦ (nothing, h)
     | inr nay ↦
         let v = odd-step n e a b i j d s p l q nay in
-        let f = step_of first cap c kf (AttainsOdd first second cap c e b i j) a i v.0.1 v.0.0 v.1 in
+        let f = step_of first (AttainsOdd first second cap c e b i j) a i v.0.1 v.0.0 v.1 in
         let u = parts cap (c.m v.0.0) (past first second cap c e v.0.1 (step_on b j v.0.0)) n l (sym f.1 ∙ q) in
         let g = u.4 in
-        let one = one-more u.0 v.0.0 (omega (arith, g, l)) u.2 in
-        let x = least_top-exists u.0 v.0.0 (omega (arith, g, l)) u.2 in
+        let one = one-more first cap c.m c.p kf O u.0 v.0.0 (omega (arith, g, l)) u.2 in
+        let x = least_top-exists first cap c.m c.p kf O u.0 v.0.0 (omega (arith, g, l)) u.2 in
         let atts = required_of (attributes_in first v.0.0) in
         elim (by-option (step_on b j v.0.0)) [
           | inl w ↦
-              let m = listed-more first a b i j v.0.1 w.0 v.0.0 p (has_document v.0.0 u.0 u.2) f.0 (on_to b j w.0 v.0.0 w.1) in
+              let m = listed-more first a b i j v.0.1 w.0 v.0.0 p (has_document first cap c.m c.p kf O v.0.0 u.0 u.2) f.0 (on_to b j w.0 v.0.0 w.1) in
               let y = odd-exists fuel u.1 e a b v.0.1 w.0 d s m (omega (arith, g, l)) (omega (arith, g, one, k)) (sym (ap (past first second cap c e v.0.1) w.1) ∙ u.3) in
               (element v.0.0 atts x.0 y.0, (v.0.1, nay, v.1, x.1, inl (w.0, w.1, y.1)))
           | inr w ↦
-              let y = least-exists (suc u.1) u.1 e a v.0.1 d (omega (arith, g, l)) (omega arith) (sym (ap (past first second cap c e v.0.1) w) ∙ u.3) in
+              let y = least-exists first cap c.m c.p kf O (suc u.1) u.1 e a v.0.1 d (omega (arith, g, l)) (omega arith) (sym (ap (past first second cap c e v.0.1) w) ∙ u.3) in
               (element v.0.0 atts x.0 y.0, (v.0.1, nay, v.1, x.1, inr (w, y.1)))
         ]
   ]
@@ -285,7 +189,7 @@ module _ (first second : Declarations) (cap : ℕ) (c : Costs) (kf : IsKept firs
   chosen_odd-exists : (n : ℕ) (e : Chars) → n ≤ cap → c.v e ≡ Fin n → AttainsKind11 first second cap c e → (o : Option Odd) → odd_in first second e ≡ o → HasChosen e
   chosen_odd-exists n e l q k None z = absurd (let w : is_some (odd_in first second e) ≡ false = ap is_some z in both_ways (is_some (odd_in first second e)) w k.0)
   chosen_odd-exists n e l q k (Some o) z =
-      let x = least_top-exists n e l (sym k.1 ∙ q) in (
+      let x = least_top-exists first cap c.m c.p kf O n e l (sym k.1 ∙ q) in (
         odd_atts o (attributes_in first e),
         put (odd_front first second e o) x.0,
         inl (k, (x.1.0, o, x.0, x.1.1, z, refl, refl, x.1.3)),
@@ -317,7 +221,7 @@ module _ (first second : Declarations) (cap : ℕ) (c : Costs) (kf : IsKept firs
   chosen-exists : (n : ℕ) (e : Chars) → n ≤ cap → c.v e ≡ Fin n
       → ((a : Content) (j : ℕ) → content_in first e ≡ Some a → n ≡ 1 + j → c.f e 0 ≡ Fin j → (xs : Items) × WrongFrom first second cap c e a 0 xs) → HasChosen e
   chosen-exists n e l q below =
-      let a = declared_of e (has_separating e n q) in
+      let a = declared_of first e (has_separating e n q) in
       elim (kind11-dec e) [
         | inl k ↦ chosen_odd-exists n e l q k (odd_in first second e) refl
         | inr n11 ↦ elim (kind10-dec e) [
@@ -352,14 +256,14 @@ module _ (first second : Declarations) (cap : ℕ) (c : Costs) (kf : IsKept firs
           → (s : Chars × ℕ) × IsFirst (AttainsWrong first second cap c e i) s (steps_in first a i)
       go [] name after r z =
           let u = parts cap (c.v name) (total cap c.m after) n l (sym z ∙ q) in
-          let b = declared_of name (has_separating name u.0 u.2) in
-          first-of (AttainsWrong first second cap c e i) (wrong-dec e i) (name, r.0) (steps_in first a i) (told_step a b.0 i r.0 name b.1 r.1)
+          let b = declared_of first name (has_separating name u.0 u.2) in
+          first-of (AttainsWrong first second cap c e i) (wrong-dec e i) (name, r.0) (steps_in first a i) (told_step first a b.0 i r.0 name b.1 r.1)
           (inl (between cap (c.f e i) (c.v name) (c.p e r.0) (total cap c.m after) (F.k3 e name a i r.0 d r.1) ((X.p e a r.0 d).0 (total cap c.m after) (after, r.2, refl)) z))
       go (x ∷ before) name after r z =
           let rest = total_with cap c.m c.v before name after in
           let u = parts cap (c.m x) rest n l (sym z ∙ q) in
-          let b = declared_of x (has_document x u.0 u.2) in
-          first-of (AttainsWrong first second cap c e i) (wrong-dec e i) (x, r.0) (steps_in first a i) (told_step a b.0 i r.0 x b.1 r.1)
+          let b = declared_of first x (has_document first cap c.m c.p kf O x u.0 u.2) in
+          first-of (AttainsWrong first second cap c e i) (wrong-dec e i) (x, r.0) (steps_in first a i) (told_step first a b.0 i r.0 x b.1 r.1)
           (inr (between cap (c.f e i) (c.m x) (c.f e r.0) rest (F.k4 e x a i r.0 d r.1) ((X.f e a r.0 d).0 rest (before, name, after, r.2, refl)) z))
 
   wrong-exists : (fuel n : ℕ) (e : Chars) (a : Content) (i : ℕ) → content_in first e ≡ Some a → n ≤ cap → n < fuel → c.f e i ≡ Fin n
@@ -367,21 +271,21 @@ module _ (first second : Declarations) (cap : ℕ) (c : Costs) (kf : IsKept firs
   wrong-exists zero n e a i d l k q = absurd (omega (arith, k))
   wrong-exists (suc fuel) n e a i d l k q =
       let s = wrong-step n e a i d l q in
-      let f = step_of first cap c kf (AttainsWrong first second cap c e i) a i s.0.1 s.0.0 s.1 in
+      let f = step_of first (AttainsWrong first second cap c e i) a i s.0.1 s.0.0 s.1 in
       elim (same-cost (c.f e i) (sum cap (c.v s.0.0) (c.p e s.0.1))) [
         | inl z ↦
             let u = parts cap (c.v s.0.0) (c.p e s.0.1) n l (sym z ∙ q) in
             let g = u.4 in
             let x = chosen-exists u.0 s.0.0 (omega (arith, g, l)) u.2
             (λ b j t w y. wrong-exists fuel j s.0.0 b 0 t (omega (arith, g, w, l)) (omega (arith, g, w, k)) y) in
-            let y = least-exists (suc u.1) u.1 e a s.0.1 d (omega (arith, g, l)) (omega arith) u.3 in
+            let y = least-exists first cap c.m c.p kf O (suc u.1) u.1 e a s.0.1 d (omega (arith, g, l)) (omega arith) u.3 in
             (element s.0.0 x.0 x.1 y.0, (s.0.1, s.1, inl (z, x.2, y.1)))
         | inr nay ↦
             let other : c.f e i ≡ sum cap (c.m s.0.0) (c.f e s.0.1) = elim f.1 [ inl z ↦ absurd (nay z) | inr z ↦ z ] in
             let u = parts cap (c.m s.0.0) (c.f e s.0.1) n l (sym other ∙ q) in
             let g = u.4 in
-            let one = one-more u.0 s.0.0 (omega (arith, g, l)) u.2 in
-            let x = least_top-exists u.0 s.0.0 (omega (arith, g, l)) u.2 in
+            let one = one-more first cap c.m c.p kf O u.0 s.0.0 (omega (arith, g, l)) u.2 in
+            let x = least_top-exists first cap c.m c.p kf O u.0 s.0.0 (omega (arith, g, l)) u.2 in
             let y = wrong-exists fuel u.1 e a s.0.1 d (omega (arith, g, l)) (omega (arith, g, one, k)) u.3 in
             (element s.0.0 (required_of (attributes_in first s.0.0)) x.0 y.0, (s.0.1, s.1, inr (nay, x.1, y.1)))
       ]
@@ -390,9 +294,7 @@ module _ (first second : Declarations) (cap : ℕ) (c : Costs) (kf : IsKept firs
   chosen_top-exists n e l q = chosen-exists n e l q (λ a j d w y. wrong-exists (suc j) j e a 0 d (omega (arith, w, l)) (omega arith) y)
 
 pub least_exists : LeastExists
-least_exists first second cap c kf ks X e n l q =
-    let t = least_top-exists first second cap c kf ks X n e l q in
-    (record { name = e; atts = required_of (attributes_in first e); items = t.0 }, (refl, t.1))
+least_exists first second cap c kf ks X = least_tree_exists first cap c.m c.p kf (exact_is_own first second cap c X)
 
 pub chosen_exists : ChosenExists
 chosen_exists first second cap c kf ks X e n l q =

@@ -12,4 +12,5 @@ pub mod Required
 pub mod Chosen
 pub mod Built
 pub mod Depth
+pub mod Growing
 pub mod Existing

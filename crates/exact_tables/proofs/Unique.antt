@@ -4,7 +4,7 @@ use Rattle.content_models.specs.Model.{Chars}
 use Rattle.tree_costs.specs.Costs.{IsLeast}
 use Rattle.tree_costs.specs.Families.{OfDocument, OfNames}
 use Rattle.exact_tables.specs.Families.{OfSeparating, OfOneName, OfOddNames}
-use Rattle.exact_tables.specs.Laws.{OneExact, AgreeingIsExact}
+use Rattle.exact_tables.specs.Laws.{OneExact, ExactIsOwn, AgreeingIsExact}
 use Rattle.tree_costs.proofs.Costs.{least-one}
 
 pub one_exact : OneExact
@@ -30,6 +30,9 @@ one_exact first second cap c d x y = record {
 
     vs : c.v ≡ d.v
     vs = λ i e. v e i
+
+pub exact_is_own : ExactIsOwn
+exact_is_own first second cap c X = record { sizes = X.m; sums = X.p }
 
 pub agreeing_is_exact : AgreeingIsExact
 agreeing_is_exact first second cap c d x y = record {

@@ -1,19 +1,18 @@
--- The choice of a least document, and of a least separating one.
-use Rattle.std.specs.Prelude.{◌≡◌, ◌≤◌, ℕ, ◌+◌, ◌==◌, Bool, true, false, ◌&&◌, not, max, List, [], ◌∷◌, Option, Some, None, is_some, IsTrue, ◌⊎◌}
-use Rattle.std.specs.List.{list_any, flat_map}
+-- The choice of a least separating document, and what exact tables say of least ones.
+use Rattle.std.specs.Prelude.{◌≡◌, ◌≤◌, ℕ, true, false, List, [], ◌∷◌, Option, Some, None, is_some, IsTrue, ◌⊎◌}
 use Rattle.content_models.specs.declared.content.Content.{Content}
 use Rattle.content_models.specs.declared.content.TextKind.{TextKind}
 use Rattle.content_models.specs.declared.content.TextKind.TheVariants.{NoItems, White}
 use Rattle.content_models.specs.Model.{Chars}
 use Rattle.content_models.specs.Kinds.{text_kind}
-use Rattle.document_trees.specs.Trees.{Attribute, Items, nothing, element, chars, comment, pi, Node, IsDocument, EachNode, is_white, are_attributes, size}
+use Rattle.document_trees.specs.Trees.{Attribute, Items, nothing, element, chars, comment, pi, Node}
 use Rattle.position_automata.specs.Automata.{Accepts}
 use Rattle.attlist_merge.specs.Lists.{Definitions}
 use Rattle.attlist_merge.specs.Oddness.{shown_by}
 use Rattle.attlist_merge.specs.Shown.{required_of}
 use Rattle.decl_set.specs.Declarations.{Declarations, content_in, attributes_in}
 use Rattle.decl_set.specs.Asked.{IsKept}
-use Rattle.decl_set.specs.Validity.{IsValid, IsSeparating}
+use Rattle.decl_set.specs.Validity.{IsSeparating}
 use Rattle.tree_costs.specs.declared.cost.Cost.{Cost}
 use Rattle.tree_costs.specs.declared.cost.Cost.TheVariants.{Fin}
 use Rattle.decl_set.specs.declared.breaks.Odd.{Odd}
@@ -25,11 +24,7 @@ use Rattle.decl_set.specs.Steps.{steps_in}
 use Rattle.position_automata.specs.Stepping.{step_on}
 use Rattle.bound_checker.specs.Tabled.{Costs}
 use Rattle.exact_tables.specs.Families.{IsExact}
-
--- it is the first of the list of which P holds
-abbrev pub IsFirst : {A : Type 0} → (A → Type 0) → A → List A → Type 0
-IsFirst P x [] = ⊥
-IsFirst P x (y ∷ ys) = (P y × (x ≡ y)) ⊎ ((P y → ⊥) × IsFirst P x ys)
+use Rattle.exact_tables.specs.LeastTrees.{IsFirst, LeastFrom, IsLeastTop, IsLeastTree, IsBuilt}
 
 -- ---- what stands beside the elements
 
@@ -54,32 +49,6 @@ odd_front first second e odd.Undeclared = None
 odd_front first second e odd.Text = front_of (content_in first e) (content_in second e)
 odd_front first second e (odd.Attribute o) = None
 
--- ---- least trees
-
-module _ (first : Declarations) (cap : ℕ) (c : Costs) where
-  -- the step attains P(i)
-  abbrev pub AttainsLeast : Chars → ℕ → (Chars × ℕ) → Type 0
-  AttainsLeast e i s = c.p e i ≡ sum cap (c.m s.0) (c.p e s.1)
-
-  -- least trees along the path of P from state i of a content of e: it stops where the state accepts, else takes the first
-  -- step that attains P
-  abbrev pub LeastFrom : Chars → Content → ℕ → Items → Type 0
-  LeastFrom e a i nothing = Accepts a i
-  LeastFrom e a i (element name atts inside later) =
-      (k : ℕ) × (b : Content) × (Accepts a i → ⊥) × IsFirst (AttainsLeast e i) (name, k) (steps_in first a i)
-      × (atts ≡ required_of (attributes_in first name)) × (content_in first name ≡ Some b) × LeastFrom name b 0 inside × LeastFrom e a k later
-  LeastFrom e a i (chars text plain later) = ⊥
-  LeastFrom e a i (comment text later) = ⊥
-  LeastFrom e a i (pi target body later) = ⊥
-
-  -- the attributes and items of a least tree of e
-  abbrev pub IsLeastTop : Chars → List Attribute → Items → Type 0
-  IsLeastTop e atts items = (a : Content) × (content_in first e ≡ Some a) × (atts ≡ required_of (attributes_in first e)) × LeastFrom e a 0 items
-
-  -- a least tree of e
-  abbrev pub IsLeastTree : Chars → Node → Type 0
-  IsLeastTree e node = (node.name ≡ e) × IsLeastTop e node.atts node.items
-
 -- ---- least separating trees
 
 module _ (first second : Declarations) (cap : ℕ) (c : Costs) where
@@ -102,8 +71,8 @@ module _ (first second : Declarations) (cap : ℕ) (c : Costs) where
   OddFrom e a b i j nothing = StopsOdd e a b i j
   OddFrom e a b i j (element name atts inside later) =
       (k : ℕ) × (StopsOdd e a b i j → ⊥) × IsFirst (AttainsOdd e b i j) (name, k) (steps_in first a i)
-      × IsLeastTop first cap c name atts inside
-      × (((l : ℕ) × (step_on b j name ≡ Some l) × OddFrom e a b k l later) ⊎ ((step_on b j name ≡ None) × LeastFrom first cap c e a k later))
+      × IsLeastTop first cap c.m c.p name atts inside
+      × (((l : ℕ) × (step_on b j name ≡ Some l) × OddFrom e a b k l later) ⊎ ((step_on b j name ≡ None) × LeastFrom first cap c.m c.p e a k later))
   OddFrom e a b i j (chars text plain later) = ⊥
   OddFrom e a b i j (comment text later) = ⊥
   OddFrom e a b i j (pi target body later) = ⊥
@@ -124,7 +93,7 @@ module _ (first second : Declarations) (cap : ℕ) (c : Costs) where
   abbrev pub ChosenOdd : Chars → List Attribute → Items → Type 0
   ChosenOdd e atts items =
       (a : Content) × (o : Odd) × (inside : Items) × (content_in first e ≡ Some a) × (odd_in first second e ≡ Some o)
-      × (atts ≡ odd_atts o (attributes_in first e)) × (items ≡ put (odd_front first second e o) inside) × LeastFrom first cap c e a 0 inside
+      × (atts ≡ odd_atts o (attributes_in first e)) × (items ≡ put (odd_front first second e o) inside) × LeastFrom first cap c.m c.p e a 0 inside
 
   -- the path of G
   abbrev pub ChosenNames : Chars → List Attribute → Items → Type 0
@@ -156,8 +125,8 @@ module _ (first second : Declarations) (cap : ℕ) (c : Costs) where
   WrongFrom e a i nothing = ⊥
   WrongFrom e a i (element name atts inside later) =
       (k : ℕ) × IsFirst (AttainsWrong e i) (name, k) (steps_in first a i)
-      × ((AttainsKind3 e i (name, k) × ChosenBy (λ b. WrongFrom name b 0 inside) name atts inside × LeastFrom first cap c e a k later)
-      ⊎ ((AttainsKind3 e i (name, k) → ⊥) × IsLeastTop first cap c name atts inside × WrongFrom e a k later))
+      × ((AttainsKind3 e i (name, k) × ChosenBy (λ b. WrongFrom name b 0 inside) name atts inside × LeastFrom first cap c.m c.p e a k later)
+      ⊎ ((AttainsKind3 e i (name, k) → ⊥) × IsLeastTop first cap c.m c.p name atts inside × WrongFrom e a k later))
   WrongFrom e a i (chars text plain later) = ⊥
   WrongFrom e a i (comment text later) = ⊥
   WrongFrom e a i (pi target body later) = ⊥
@@ -170,78 +139,35 @@ module _ (first second : Declarations) (cap : ℕ) (c : Costs) where
   abbrev pub IsChosen : Chars → Node → Type 0
   IsChosen e node = (node.name ≡ e) × IsChosenTop e node.atts node.items
 
--- ---- what can be written and read back
-
--- whether a run comes first
-abbrev pub begins_run : Items → Bool
-begins_run (chars text plain later) = true
-begins_run items = false
-
-abbrev pub has_cr : List ℕ → Bool
-has_cr text = list_any (λ x. x == 13) text
-
-abbrev pub is_filled : List ℕ → Bool
-is_filled [] = false
-is_filled (x ∷ text) = true
-
--- the runs of a node can be written: no two stand side by side, and plain ones are white, not empty and without CR. There
--- are no comments and no processing instructions.
-abbrev pub are_written : Items → Bool
-are_written nothing = true
-are_written (element name atts inside later) = are_written later
-are_written (chars text true later) = is_white text && (is_filled text && (not (has_cr text) && (not (begins_run later) && are_written later)))
-are_written (chars text false later) = not (begins_run later) && are_written later
-are_written (comment text later) = false
-are_written (pi target body later) = false
-
-abbrev pub IsWritten : Chars → List Attribute → Items → Type 0
-IsWritten e atts items = IsTrue (are_attributes atts) × IsTrue (are_written items)
-
--- how many elements are open at most
-abbrev pub depth : Items → ℕ
-depth nothing = 0
-depth (element name atts inside later) = max (1 + depth inside) (depth later)
-depth (chars text plain later) = depth later
-depth (comment text later) = depth later
-depth (pi target body later) = depth later
-
 -- ---- the laws
 
 -- two least trees of an element are equal
 abbrev pub OneLeast : Type 0
-OneLeast = (first : Declarations) (cap : ℕ) (c : Costs) (e : Chars) (x y : Node) → IsLeastTree first cap c e x → IsLeastTree first cap c e y → x ≡ y
+OneLeast = (first : Declarations) (cap : ℕ) (c : Costs) (e : Chars) (x y : Node) → IsLeastTree first cap c.m c.p e x → IsLeastTree first cap c.m c.p e y → x ≡ y
 
 -- and so are two chosen ones
 abbrev pub OneChosen : Type 0
 OneChosen =
     (first second : Declarations) (cap : ℕ) (c : Costs) (e : Chars) (x y : Node) → IsChosen first second cap c e x → IsChosen first second cap c e y → x ≡ y
 
--- the tree is a document, valid, of this size, and can be written: each node, and few elements are open
-pub record IsBuilt (first : Declarations) (e : Chars) (n : ℕ) (node : Node) : Type 0 where
-  pub document : IsDocument node
-  pub valid : IsValid first e node
-  pub sized : size node ≡ n
-  pub written : EachNode IsWritten node
-  pub shallow : 1 + depth node.items ≤ 2048
-
--- a least tree is built so, as large as m says
+-- by exact tables a least tree is built so, as large as m says
 abbrev pub LeastIsBuilt : Type 0
 LeastIsBuilt =
     (first second : Declarations) (cap : ℕ) (c : Costs) → IsKept first → IsKept second → IsExact first second cap c
-    → (e : Chars) (n : ℕ) → n ≤ cap → c.m e ≡ Fin n → (node : Node) → IsLeastTree first cap c e node → IsBuilt first e n node
+    → (e : Chars) (n : ℕ) → n ≤ cap → c.m e ≡ Fin n → (node : Node) → IsLeastTree first cap c.m c.p e node → IsBuilt 1024 first e n node
 
 -- a chosen tree is built so, as large as v says, and separates
 abbrev pub ChosenIsBuilt : Type 0
 ChosenIsBuilt =
     (first second : Declarations) (cap : ℕ) (c : Costs) → IsKept first → IsKept second → IsExact first second cap c
     → (e : Chars) (n : ℕ) → n ≤ cap → c.v e ≡ Fin n → (node : Node) → IsChosen first second cap c e node
-    → IsBuilt first e n node × IsSeparating first second e node
+    → IsBuilt 2048 first e n node × IsSeparating first second e node
 
 -- where m has a number up to the cap there is a least tree
 abbrev pub LeastExists : Type 0
 LeastExists =
     (first second : Declarations) (cap : ℕ) (c : Costs) → IsKept first → IsKept second → IsExact first second cap c
-    → (e : Chars) (n : ℕ) → n ≤ cap → c.m e ≡ Fin n → (node : Node) × IsLeastTree first cap c e node
+    → (e : Chars) (n : ℕ) → n ≤ cap → c.m e ≡ Fin n → (node : Node) × IsLeastTree first cap c.m c.p e node
 
 -- where v has a number up to the cap there is a chosen tree
 abbrev pub ChosenExists : Type 0

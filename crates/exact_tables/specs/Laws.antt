@@ -8,6 +8,7 @@ use Rattle.decl_set.specs.Asked.{IsKept}
 use Rattle.decl_set.specs.Validity.{IsValid, IsSeparating, IsSubset}
 use Rattle.tree_costs.specs.declared.cost.Cost.TheVariants.{Inf}
 use Rattle.tree_costs.specs.Costs.{Bounds}
+use Rattle.tree_costs.specs.Families.{AreExact}
 use Rattle.bound_checker.specs.Tabled.{Costs}
 use Rattle.bound_checker.specs.Kinds.{Feasible}
 use Rattle.exact_tables.specs.Families.{IsReached, IsExact, IsListed}
@@ -25,6 +26,10 @@ pub record Agree (first second : Declarations) (c d : Costs) : Type 0 where
 -- two sets have one table of exact costs
 abbrev pub OneExact : Type 0
 OneExact = (first second : Declarations) (cap : ℕ) (c d : Costs) → IsExact first second cap c → IsExact first second cap d → Agree first second c d
+
+-- exact costs are exact for the first alone
+abbrev pub ExactIsOwn : Type 0
+ExactIsOwn = (first second : Declarations) (cap : ℕ) (c : Costs) → IsExact first second cap c → AreExact first cap c.m c.p
 
 -- exact costs are feasible
 abbrev pub ExactIsFeasible : Type 0

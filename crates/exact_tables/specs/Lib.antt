@@ -4,5 +4,6 @@ pub mod Lowering
 pub mod Comparing
 pub mod Numbered
 pub mod Verdicts
+pub mod LeastTrees
 pub mod Chosen
 pub mod Laws

@@ -2,14 +2,17 @@
 
 ghost use Rattle.exact_tables.specs.Chosen.{ChosenExists, ChosenIsBuilt, LeastExists, LeastIsBuilt, OneChosen, OneLeast};
 ghost use Rattle.exact_tables.specs.Comparing.{SolvedIsExact};
-ghost use Rattle.exact_tables.specs.Laws.{AgreeingIsExact, AttainedIsExact, ExactIsFeasible, OneExact, ReachedIsExact};
+ghost use Rattle.exact_tables.specs.Laws.{AgreeingIsExact, AttainedIsExact, ExactIsFeasible, ExactIsOwn, OneExact, ReachedIsExact};
+ghost use Rattle.exact_tables.specs.LeastTrees.{LeastTreeExists, LeastTreeIsBuilt, OneLeastTree};
 ghost use Rattle.exact_tables.specs.Lowering.{EachGives};
 ghost use Rattle.exact_tables.specs.Numbered.{NumberedIsExact};
 ghost use Rattle.exact_tables.specs.Verdicts.{ContentTold, DocumentsTold, VerdictTold};
 
-/// Two sets have one table of exact costs. It is feasible, and costs that are feasible and attained are exact.
+/// Two sets have one table of exact costs. It is exact for the first alone and feasible, and costs that are feasible and
+/// attained are exact.
 pub fn exact_law()
     ensures one { OneExact }
+    ensures own { ExactIsOwn }
     ensures feasible { ExactIsFeasible }
     ensures reached { ReachedIsExact }
     ensures attained { AttainedIsExact }
@@ -35,13 +38,21 @@ pub fn verdict_law()
     ensures content { ContentTold }
 {}
 
+/// By the exact costs of a set an element whose least size is a number up to the cap has one least tree. It is valid, of
+/// that size, and can be written, with at most 1,024 elements open.
+pub fn tree_law()
+    ensures one { OneLeastTree }
+    ensures built { LeastTreeIsBuilt }
+    ensures exists { LeastTreeExists }
+{}
+
 /// An element has one least tree and one chosen separating tree.
 pub fn chosen_law()
     ensures least { OneLeast }
     ensures chosen { OneChosen }
 {}
 
-/// A least tree is valid, as large as m says, and can be written.
+/// By exact tables a least tree is valid, as large as m says, and can be written.
 pub fn least_law()
     ensures built { LeastIsBuilt }
     ensures exists { LeastExists }

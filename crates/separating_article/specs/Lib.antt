@@ -1,0 +1,5 @@
+pub mod Sizes
+pub mod Choosing
+pub mod Growing
+pub mod Articles
+pub mod Building
