@@ -38,7 +38,7 @@ module _ (first : Declarations) (root : Chars) where
 
   none_useful : (es : List Element) → CountsUseful first root es 0 → AllByRecursion IsUseless es
   none_useful [] h = tt
-  none_useful (x ∷ es) (inl h) = absurd (let e : 0 ≡ suc h.1 = h.2 in cc)
+  none_useful (x ∷ es) (inl h) = absurd (let e = h.1.1 in omega (arith, e))
   none_useful (x ∷ es) (inr h) = (h.0, none_useful es h.1)
 
   some_useful : (es : List Element) (n : ℕ) → CountsUseful first root es n → 0 < n → HasDocument first root

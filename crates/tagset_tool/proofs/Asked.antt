@@ -17,7 +17,7 @@ use Rattle.tagset_tool.specs.declared.answer.Stop.{Stop}
 use Rattle.tagset_tool.specs.declared.answer.Stop.TheVariants as stop
 use Rattle.tagset_tool.specs.Outcomes.{Outcome, after}
 use Rattle.tagset_tool.specs.Runs.{StopsAs}
-use Rattle.tagset_tool.specs.Words.{SetWords, word, set_by, is_compare, is_fill, is_report, is_validate}
+use Rattle.tagset_tool.specs.Words.{SetWords, word, set_by, is_compare, is_fill, is_report, is_validate, is_verify}
 
 -- what a place of the words has
 pub word_at : (words : List (List ℕ)) (i : ℕ) (x : List ℕ) → i < length words → x ≡ get_or words i x → x ≡ word words i
@@ -30,6 +30,10 @@ seven_words words t = eqb-true (length words) 7 (and_parts (length words == 7) (
 -- words of a report are six
 pub six_words : (words : List (List ℕ)) → is_report words ≡ true → length words ≡ 6
 six_words words t = eqb-true (length words) 6 (and_parts (length words == 6) (bytes_eq (word words 0) (codes "report")) t).0
+
+-- and so are those of `verify`
+pub six_verified : (words : List (List ℕ)) → is_verify words ≡ true → length words ≡ 6
+six_verified words t = eqb-true (length words) 6 (and_parts (length words == 6) (bytes_eq (word words 0) (codes "verify")) t).0
 
 -- those of `validate` are five, and those of `fill` four
 pub five_words : (words : List (List ℕ)) → is_validate words ≡ true → length words ≡ 5
@@ -100,3 +104,20 @@ told_read None now catalog entry named result same named_is reads = tt
 told_read (Some files) now catalog entry named result same named_is reads =
     let here : Reads (set_from (record { files = files; catalog = named }) entry) result = subst (λ o. IfSome o (λ files. Reads (set_from (record { files = files; catalog = named }) entry) result)) same reads in
     subst (λ c. Reads (c >>= λ it. set_from (record { files = files; catalog = it }) entry) result) (sym named_is) here
+
+-- what is answered over two sets that were read and a third thing, and where it is not read
+pub told_third : {X Y Z : Type 0} → (holds : Option Files) (read : Files → Result X Fault) (other : Files → Result Y Fault) (third : Files → Result Z Fault) (next : X → Y → Z → Outcome) (x : X) (y : Y) (z : Z) (status : ℕ) (bytes : List ℕ)
+    → IfSome holds (λ files. Reads (read files) (Ok x)) → IfSome holds (λ files. Reads (other files) (Ok y)) → IfSome holds (λ files. Reads (third files) (Ok z)) → next x y z status bytes
+    → IfSome holds (λ files. after (read files) (λ x. after (other files) (λ y. after (third files) (next x y))) status bytes)
+told_third None read other third next x y z status bytes first second last over = tt
+told_third (Some files) read other third next x y z status bytes first second last over =
+    subst (λ r. after r (λ x. after (other files) (λ y. after (third files) (next x y))) status bytes) (sym first)
+    (subst (λ r. after r (λ y. after (third files) (next x y)) status bytes) (sym second) (subst (λ r. after r (next x y) status bytes) (sym last) over))
+
+pub told_stopped_third : {X Y Z : Type 0} → (holds : Option Files) (read : Files → Result X Fault) (other : Files → Result Y Fault) (third : Files → Result Z Fault) (next : X → Y → Z → Outcome) (x : X) (y : Y) (fault : ReadFault) (result : Result Answer Stop)
+    → IfSome holds (λ files. Reads (read files) (Ok x)) → IfSome holds (λ files. Reads (other files) (Ok y)) → IfSome holds (λ files. Reads (third files) (Err fault)) → StopsAs fault result
+    → IfSome holds (λ files. IfOk result (λ a. after (read files) (λ x. after (other files) (λ y. after (third files) (next x y))) a.status a.bytes.items))
+told_stopped_third None read other third next x y fault result first second last stops = tt
+told_stopped_third (Some files) read other third next x y fault result first second last stops =
+    subst (λ r. IfOk result (λ a. after r (λ x. after (other files) (λ y. after (third files) (next x y))) a.status a.bytes.items)) (sym first)
+    (subst (λ r. IfOk result (λ a. after r (λ y. after (third files) (next x y)) a.status a.bytes.items)) (sym second) (stopped_by (third files) (next x y) fault result last stops))

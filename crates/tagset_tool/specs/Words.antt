@@ -18,6 +18,7 @@ pub data Asked : Type 0 where
   fill : SetWords → (article : List ℕ) → Asked
   compare : (first second : SetWords) (root : List ℕ) → Asked
   report : (first second : SetWords) (root : List ℕ) → Asked
+  verify : (certificate : List ℕ) (first second : SetWords) → Asked
 
 abbrev pub word : List (List ℕ) → ℕ → List ℕ
 word words k = slice_index_or words k []
@@ -54,6 +55,10 @@ is_compare words = length words == 7 && (bytes_eq (word words 0) (codes "compare
 abbrev pub is_report : List (List ℕ) → Bool
 is_report words = length words == 6 && bytes_eq (word words 0) (codes "report")
 
+-- verify CERT CATALOG1 FIRST CATALOG2 SECOND
+abbrev pub is_verify : List (List ℕ) → Bool
+is_verify words = length words == 6 && bytes_eq (word words 0) (codes "verify")
+
 abbrev pub asked : List (List ℕ) → Option Asked
 asked words =
     if is_check words then Some (check (set_words words 1))
@@ -62,6 +67,7 @@ asked words =
     else if is_fill words then Some (fill (set_words words 1) (word words 3))
     else if is_compare words then Some (compare (set_words words 1) (set_words words 3) (word words 5))
     else if is_report words then Some (report (set_words words 1) (set_words words 3) (word words 5))
+    else if is_verify words then Some (verify (word words 1) (set_words words 2) (set_words words 4))
     else None
 
 -- the set that words name, or the first refusal

@@ -4,3 +4,4 @@ pub mod Fill
 pub mod Flatten
 pub mod Report
 pub mod Validate
+pub mod Verify

@@ -6,3 +6,4 @@ pub mod fill;
 pub mod flatten;
 pub mod report;
 pub mod validate;
+pub mod verify;

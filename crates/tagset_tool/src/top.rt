@@ -13,7 +13,8 @@ use crate::commands::fill::fill_words;
 use crate::commands::flatten::flatten_words;
 use crate::commands::report::report_words;
 use crate::commands::validate::validate_words;
-use crate::words::{is_check, is_compare, is_fill, is_flatten, is_report, is_validate};
+use crate::commands::verify::verify_words;
+use crate::words::{is_check, is_compare, is_fill, is_flatten, is_report, is_validate, is_verify};
 use jats_chars::Text;
 use jats_io::{Sink, Store, write_all};
 use std::alloc::Global;
@@ -50,6 +51,8 @@ fn answer_to<S: Store>(alloc: Global, words: &[Text], store: &mut S) -> Result<A
         compare_words(alloc, words, store)
     } else if is_report(words) {
         report_words(alloc, words, store)
+    } else if is_verify(words) {
+        verify_words(alloc, words, store)
     } else {
         usage(alloc)
     }

@@ -63,6 +63,13 @@ pub fn is_report(words: &[Text]) -> bool
     words.len() == 6 && is_word(&words[0], &['r', 'e', 'p', 'o', 'r', 't'])
 }
 
+/// Whether the words ask to verify a certificate.
+pub fn is_verify(words: &[Text]) -> bool
+    ensures { result ≡ spec.is_verify words.now }
+{
+    words.len() == 6 && is_word(&words[0], &['v', 'e', 'r', 'i', 'f', 'y'])
+}
+
 /// The file of a catalog; `-` names none.
 fn catalog_word(word: &Text) -> Option<&Text>
     ensures { option_copied result ≡ spec.catalog_word word.now }
