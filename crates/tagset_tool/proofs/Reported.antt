@@ -1,6 +1,7 @@
 -- What a report says of a comparison.
-use Rattle.std.proofs.Common.{◌≡◌, ◌<◌, ◌↔◌, ℕ, zero, suc, Bool, true, false, List, [], ◌∷◌, Some, None, Ok, Err, inl, inr, IsTrue, nat_lt, refl, sym, subst, arith, true≢false, slice_get}
+use Rattle.std.proofs.Common.{◌≡◌, ◌∙◌, ◌<◌, ◌↔◌, ℕ, Bool, true, false, List, [], ◌∷◌, Some, None, Ok, Err, inl, inr, IsTrue, nat_lt, refl, sym, subst, arith, true≢false, slice_get}
 use Rattle.std.specs.Prelude.{Option, Result, is_some}
+use Rattle.std.proofs.lemmas.Bool.{lt-ltb}
 use Rattle.jats_chars.specs.Names.{is_name}
 use Rattle.content_models.specs.declared.content.Content.{Content}
 use Rattle.decl_set.specs.Declarations.{Declarations, content_in}
@@ -27,8 +28,7 @@ unnamed set root kept off = by (content_in set root) refl
     by (Some a) found = absurd (true≢false (sym (element_is set root a kept found).named ∙ off))
 
 positive : (n : ℕ) → IsTrue (nat_lt 0 n) ↔ (0 < n)
-positive zero = ((λ t. absurd (true≢false (sym t))), (λ l. absurd (omega (arith, l))))
-positive (suc n) = ((λ t. omega arith), (λ l. refl))
+positive n = ((λ t. omega (arith, t)), lt-ltb 0 n)
 
 module _ (first second : Declarations) (kf : IsKept first) (ks : IsKept second) (root : List ℕ) where
   listed_verdict : (report : Report) → IsReported first second root report → (ds : List BrokenDecl) → ListsBroken first second root first.elements ds → IsVerdict first second root (verdict_by report.useful (slice_get ds 0))
