@@ -23,14 +23,14 @@ use Rattle.tree_costs.specs.Costs.{IsSmall}
 use Rattle.bound_checker.specs.Tabled.{IsPair, IsBefore, AreAscending, FitsRow, FitRows, Fits}
 use Rattle.bound_checker.specs.Certificates.{Rest, after, split, split_on, spaced, number_in, numbers_in, cost_of, cost_in, cost_text, costs_in, costs_text, both, element_in, element_head, state_in, state_head, a_state, pair_in, pair_text, a_pair, state_lines, pair_lines, row_lines, cert_onto, root_in, head_in, end_in, and_then, wanted, begun, next, read_states, comes_after, may_follow, read_pairs, a_row, read_row, read_rows, read_body, read_from, read_lines, the_tables, IsShort, AreShort, PrintedReadsBack, PrintedIsFound, IsBeside}
 
-abbrev is_solid : ℕ → Bool
+abbrev pub is_solid : ℕ → Bool
 is_solid c = not (c == 0x20)
 
 pub after_it : (p cs : List ℕ) → after p (p ++ cs) ≡ Some cs
 after_it [] cs = refl
 after_it (x ∷ p) cs = rw (eq-eqb x x refl) (after_it p cs)
 
-solid_split : (cs : List ℕ) → list_all is_solid cs ≡ true → split cs ≡ None
+pub solid_split : (cs : List ℕ) → list_all is_solid cs ≡ true → split cs ≡ None
 solid_split [] h = refl
 solid_split (c ∷ cs) h =
     let P : Bool → Type 0 = λ b. (not b && list_all is_solid cs) ≡ true → cond {A = Option (List ℕ × List ℕ)} b (Some ([], cs)) None ≡ None in

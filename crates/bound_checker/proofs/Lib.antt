@@ -12,3 +12,8 @@ pub mod Certificates
 pub mod Certified
 pub mod Lined
 pub mod Putting
+pub mod Cutting
+pub mod Spelling
+pub mod Glued
+pub mod Numbered
+pub mod Naming

@@ -1,6 +1,6 @@
 -- The lines of a certificate hold no LF, so that its text has them as its lines.
-use Rattle.std.proofs.Common.{◌≡◌, ◌≤◌, ◌<◌, ◌+◌, ◌%◌, ◌^◌, ◌==◌, ◌&&◌, ℕ, List, [], ◌∷◌, ◌++◌, Bool, true, false, cond, not, Option, Some, None, inl, inr, length, refl, sym, ap, ◌∙◌, subst, arith, true≢false}
-use Rattle.std.specs.Prelude.{codes, Ok}
+use Rattle.std.proofs.Common.{◌≡◌, ◌≤◌, ◌<◌, ◌+◌, ◌%◌, ◌^◌, ◌==◌, ℕ, List, [], ◌∷◌, ◌++◌, Bool, true, cond, not, Option, Some, None, inl, inr, length, refl, sym, ap, ◌∙◌, subst, arith, true≢false, append_assoc}
+use Rattle.std.specs.Prelude.{codes}
 use Rattle.std.specs.List.{list_all, AllByRecursion}
 use Rattle.std.specs.Fmt.{decimal}
 use Rattle.std.specs.Cmp.Derive.{both_true}
@@ -26,16 +26,13 @@ use Rattle.bound_checker.specs.declared.tables.StateRow.{StateRow}
 use Rattle.bound_checker.specs.declared.tables.PairRow.{PairRow}
 use Rattle.bound_checker.specs.declared.tables.Row.{Row}
 use Rattle.bound_checker.specs.declared.tables.Tables.{Tables}
-use Rattle.bound_checker.specs.Tabled.{IsPair, FitsRow, FitRows, Fits}
-use Rattle.bound_checker.specs.Certificates.{spaced, cost_text, costs_text, element_head, state_head, pair_text, state_lines, pair_lines, row_lines, cert_lines, read_lines, IsShort, AreShort}
-use Rattle.bound_checker.specs.Lines.{joined, onto, lines_of, TextReadsBack}
-use Rattle.bound_checker.proofs.Certificates.{printed_back}
+use Rattle.bound_checker.specs.Tabled.{IsPair, FitRows, Fits}
+use Rattle.bound_checker.specs.Certificates.{spaced, cost_text, costs_text, element_head, state_head, pair_text, state_lines, pair_lines, row_lines, cert_onto, cert_lines, read_lines, IsShort, AreShort}
+use Rattle.bound_checker.specs.Lines.{joined, onto, lines_of, IsInline, TextReadsBack, TextIsFound}
+use Rattle.bound_checker.proofs.Certificates.{printed_back, printed_found}
 
 abbrev is_inline : ℕ → Bool
 is_inline c = not (c == 0xA)
-
-abbrev IsInline : List ℕ → Type 0
-IsInline line = list_all is_inline line ≡ true
 
 abbrev AreInline : List Chars → Type 0
 AreInline lines = AllByRecursion IsInline lines
@@ -52,6 +49,12 @@ line_off (c ∷ line) more h =
 lines_back : (lines : List Chars) → AreInline lines → lines_of (joined lines) ≡ lines
 lines_back [] h = refl
 lines_back (line ∷ lines) h = line_off line (joined lines) h.0 ∙ ap (λ x. line ∷ x) (lines_back lines h.1)
+
+-- and so in front of any text
+lines_front : (lines : List Chars) (behind : List ℕ) → AreInline lines → lines_of (joined lines ++ behind) ≡ lines ++ lines_of behind
+lines_front [] behind h = refl
+lines_front (line ∷ lines) behind h =
+    ap lines_of (append_assoc line (0xA ∷ joined lines) behind) ∙ (line_off line (joined lines ++ behind) h.0 ∙ ap (λ x. line ∷ x) (lines_front lines behind h.1))
 
 -- ---- parts of lines
 
@@ -166,3 +169,33 @@ lines_inline first second tables k f short = (
 pub text_back : TextReadsBack
 text_back first second tables k f short =
     ap (read_lines first second) (lines_back (cert_lines first tables) (lines_inline first second tables k f short)) ∙ printed_back first second tables f short
+
+-- ---- lines behind
+
+states_onto : (ss : List StateRow) (i : ℕ) (rest behind : List Chars) → state_lines i ss rest ++ behind ≡ state_lines i ss (rest ++ behind)
+states_onto [] i rest behind = refl
+states_onto (s ∷ ss) i rest behind = ap (λ x. (state_head i ++ costs_text s.p s.f) ∷ x) (states_onto ss (i + 1) rest behind)
+
+pairs_onto : (xs : List PairRow) (rest behind : List Chars) → pair_lines xs rest ++ behind ≡ pair_lines xs (rest ++ behind)
+pairs_onto [] rest behind = refl
+pairs_onto (x ∷ xs) rest behind = ap (λ y. (codes "pair " ++ pair_text x) ∷ y) (pairs_onto xs rest behind)
+
+rows_onto : (es : List Element) (rows : List Row) (rest behind : List Chars) → row_lines es rows rest ++ behind ≡ row_lines es rows (rest ++ behind)
+rows_onto [] rows rest behind = refl
+rows_onto (e ∷ es) [] rest behind = refl
+rows_onto (e ∷ es) (row ∷ rows) rest behind =
+    let later = row_lines es rows rest in
+    ap (λ y. (element_head e.0 ++ costs_text row.m row.v) ∷ y)
+    (states_onto row.states 0 (pair_lines row.pairs later) behind
+    ∙ ap (state_lines 0 row.states) (pairs_onto row.pairs later behind ∙ ap (pair_lines row.pairs) (rows_onto es rows rest behind)))
+
+cert_behind : (first : Declarations) (tables : Tables) (behind : List Chars) → cert_lines first tables ++ behind ≡ cert_onto first tables behind
+cert_behind first tables behind =
+    ap (λ y. (codes "certificate " ++ (codes "1 " ++ spaced tables.root (decimal tables.cap))) ∷ y) (rows_onto first.elements tables.rows (codes "end" ∷ []) behind)
+
+pub text_found : TextIsFound
+text_found first second tables before behind k f short inline off =
+    let cert = joined (cert_lines first tables) ++ behind in
+    ap (read_lines first second) (lines_front before cert inline
+    ∙ ap (λ y. before ++ y) (lines_front (cert_lines first tables) behind (lines_inline first second tables k f short) ∙ cert_behind first tables (lines_of behind)))
+    ∙ printed_found first second tables before (lines_of behind) f short off

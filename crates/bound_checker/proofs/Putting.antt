@@ -6,7 +6,7 @@ use Rattle.decl_set.specs.Declarations.{Element}
 use Rattle.bound_checker.specs.declared.tables.PairRow.{PairRow}
 use Rattle.bound_checker.specs.declared.tables.Row.{Row}
 use Rattle.bound_checker.specs.declared.tables.StateRow.{StateRow}
-use Rattle.bound_checker.specs.Certificates.{state_head, costs_text, state_lines, pair_text, pair_lines, row_lines, element_head}
+use Rattle.bound_checker.specs.Certificates.{state_head, costs_text, state_lines, pair_text, pair_lines, row_lines}
 use Rattle.bound_checker.specs.Lines.{joined, PutsLine, PutsLines, row_lines_at}
 use Rattle.std.specs.Prelude.{codes}
 
@@ -40,7 +40,7 @@ pub pairs_next : (pairs : List PairRow) (k : ℕ) (x : PairRow) → slice_get pa
     → pair_lines (drop k pairs) rest ≡ (codes "pair " ++ pair_text x) ∷ pair_lines (drop (k + 1) pairs) rest
 pairs_next pairs k x h rest = ap (λ y. pair_lines y rest) (drop_step pairs k x h)
 
-past : {X : Type 0} (xs : List X) (k : ℕ) → slice_get xs k ≡ None → length xs ≤ k
+pub past : {X : Type 0} (xs : List X) (k : ℕ) → slice_get xs k ≡ None → length xs ≤ k
 past [] k h = omega arith
 past (x ∷ xs) zero h = cc
 past (x ∷ xs) (suc k) h = let l = past xs k h in omega (arith, l)

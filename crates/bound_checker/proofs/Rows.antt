@@ -1,11 +1,7 @@
 -- The row at the place of an element is its own, and fits it.
-use Rattle.std.proofs.Common.{◌≡◌, ℕ, zero, suc, List, [], ◌∷◌, Option, Some, None, refl, sym, ap, ◌∙◌, subst, slice_get}
+use Rattle.std.proofs.Common.{◌≡◌, ℕ, zero, suc, List, [], ◌∷◌, Some, None, refl, ap, ◌∙◌, subst, slice_get}
 use Rattle.std.specs.Prelude.{option_and_then}
-use Rattle.std.specs.List.{AllByRecursion}
-use Rattle.std.specs.Option.{option_map_or}
-use Rattle.content_models.specs.declared.content.Content.{Content}
-use Rattle.content_models.specs.Model.{Chars}
-use Rattle.decl_set.specs.Declarations.{Declarations, Element, content_in}
+use Rattle.decl_set.specs.Declarations.{Declarations, Element}
 use Rattle.decl_set.specs.Asked.{IsKept}
 use Rattle.bound_checker.specs.declared.tables.Row.{Row}
 use Rattle.bound_checker.specs.declared.tables.Tables.{Tables}

@@ -1,9 +1,8 @@
 -- What tables say about documents.
-use Rattle.std.specs.Prelude.{◌≡◌, ℕ, Some}
-use Rattle.content_models.specs.declared.content.Content.{Content}
+use Rattle.std.specs.Prelude.{◌≡◌, ℕ}
 use Rattle.content_models.specs.Model.{Chars}
 use Rattle.document_trees.specs.Trees.{Node, size}
-use Rattle.decl_set.specs.Declarations.{Declarations, content_in}
+use Rattle.decl_set.specs.Declarations.{Declarations}
 use Rattle.decl_set.specs.Asked.{IsKept}
 use Rattle.decl_set.specs.Validity.{IsValid, IsSeparating, IsSubset}
 use Rattle.tree_costs.specs.declared.cost.Cost.TheVariants.{Inf}

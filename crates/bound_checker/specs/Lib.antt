@@ -7,3 +7,6 @@ pub mod Tests
 pub mod Holding
 pub mod Certificates
 pub mod Lines
+pub mod Spelled
+pub mod Left
+pub mod Reads

@@ -1,12 +1,12 @@
 -- Texts as lines that LF ends.
-use Rattle.std.specs.Prelude.{◌≡◌, ℕ, ◌==◌, List, [], ◌∷◌, ◌++◌, Option, Some, None, Ok, if◌then◌else◌}
-use Rattle.std.specs.List.{AllByRecursion}
+use Rattle.std.specs.Prelude.{◌≡◌, ℕ, ◌==◌, true, not, List, [], ◌∷◌, ◌++◌, Option, Some, None, Ok, if◌then◌else◌}
+use Rattle.std.specs.List.{AllByRecursion, list_all}
 use Rattle.decl_set.specs.Asked.{IsKept}
 use Rattle.decl_set.specs.Declarations.{Declarations, Element}
 use Rattle.bound_checker.specs.declared.tables.Row.{Row}
 use Rattle.bound_checker.specs.declared.tables.Tables.{Tables}
 use Rattle.bound_checker.specs.Tabled.{Fits}
-use Rattle.bound_checker.specs.Certificates.{element_head, costs_text, state_lines, pair_lines, cert_lines, read_lines, AreShort}
+use Rattle.bound_checker.specs.Certificates.{element_head, costs_text, state_lines, pair_lines, cert_lines, read_lines, AreShort, IsBeside}
 
 -- the lines one after the other, each with LF
 abbrev pub joined : List (List ℕ) → List ℕ
@@ -22,6 +22,10 @@ onto c (x ∷ xs) = (c ∷ x) ∷ xs
 abbrev pub lines_of : List ℕ → List (List ℕ)
 lines_of [] = []
 lines_of (c ∷ cs) = if c == 0xA then [] ∷ lines_of cs else onto c (lines_of cs)
+
+-- the line holds no LF
+abbrev pub IsInline : List ℕ → Type 0
+IsInline line = list_all (λ c. not (c == 0xA)) line ≡ true
 
 -- the line was appended, with LF
 abbrev pub PutsLine : List ℕ → List ℕ → List ℕ → Type 0
@@ -43,3 +47,10 @@ abbrev pub TextReadsBack : Type 0
 TextReadsBack =
     (first second : Declarations) (tables : Tables) → IsKept first → Fits first second tables → AllByRecursion AreShort tables.rows
     → read_lines first second (lines_of (joined (cert_lines first tables))) ≡ Ok tables
+
+-- so does the text of one that stands between lines before it and any text behind it
+abbrev pub TextIsFound : Type 0
+TextIsFound =
+    (first second : Declarations) (tables : Tables) (before : List (List ℕ)) (behind : List ℕ) → IsKept first → Fits first second tables → AllByRecursion AreShort tables.rows
+    → AllByRecursion IsInline before → AllByRecursion IsBeside before
+    → read_lines first second (lines_of (joined before ++ (joined (cert_lines first tables) ++ behind))) ≡ Ok tables

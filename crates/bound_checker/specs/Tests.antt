@@ -1,6 +1,6 @@
 -- The inequalities of tables in the order in which they are tested, and the first that fails.
-use Rattle.std.specs.Prelude.{◌≡◌, ℕ, ◌+◌, Bool, true, false, not, ◌&&◌, nat_le, List, [], ◌∷◌, ◌++◌, Option, Some, None, is_some, find, if◌then◌else◌, ◌↔◌, Result, Ok, Err}
-use Rattle.std.specs.List.{AllByRecursion, flat_map, range_with_len}
+use Rattle.std.specs.Prelude.{◌≡◌, ℕ, ◌+◌, Bool, not, ◌&&◌, List, [], ◌∷◌, ◌++◌, Option, Some, None, is_some, find, if◌then◌else◌, ◌↔◌, Result, Ok, Err}
+use Rattle.std.specs.List.{flat_map, range_with_len}
 use Rattle.std.specs.Option.{option_map_or}
 use Rattle.content_models.specs.declared.content.Content.{Content}
 use Rattle.content_models.specs.Model.{Chars}
@@ -9,14 +9,14 @@ use Rattle.decl_set.specs.Declarations.{Declarations, Element, content_in}
 use Rattle.decl_set.specs.Asked.{IsKept}
 use Rattle.bound_checker.specs.declared.check.Broken.{Broken}
 use Rattle.tree_costs.specs.declared.cost.Cost.{Cost}
-use Rattle.tree_costs.specs.declared.cost.Cost.TheVariants.{Fin, Inf}
+use Rattle.tree_costs.specs.declared.cost.Cost.TheVariants.{Fin}
 use Rattle.bound_checker.specs.declared.tables.PairRow.{PairRow}
 use Rattle.bound_checker.specs.declared.tables.Tables.{Tables}
 use Rattle.tree_costs.specs.Costs.{sum, at_most}
 use Rattle.decl_set.specs.Oddness.{odd_in}
 use Rattle.position_automata.specs.Stepping.{does_accept, step_on}
 use Rattle.decl_set.specs.Steps.{steps_in}
-use Rattle.bound_checker.specs.Tabled.{Costs, IsPair, costs_of, row_of}
+use Rattle.bound_checker.specs.Tabled.{Costs, costs_of, row_of}
 use Rattle.bound_checker.specs.Kinds.{AreFeasible}
 
 -- for each of a list with its place, counted from k

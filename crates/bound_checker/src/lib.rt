@@ -8,13 +8,20 @@
 #![tactic(auto)]
 
 mod check;
+mod cursor;
+mod entries;
+mod fault;
 mod held;
 mod laws;
 mod printing;
+mod reading;
 mod tables;
+mod words;
 
 pub use check::{Broken, check_tables};
+pub use fault::CertFault;
 pub use laws::{certificate_law, odd_law, sound_law, tests_law};
 pub use printing::print_cert;
+pub use reading::read_cert;
 pub use tables::{PairRow, PairRows, Row, Rows, StateRow, StateRows, Tables};
 pub use tree_costs::{Cost, CostList, Least, LeastRow, LeastRows, sum};
