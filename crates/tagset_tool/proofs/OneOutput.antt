@@ -119,7 +119,7 @@ compares_unique files one other root =
     (λ first. after_unique (set_by files other) (λ second. over_sets first second root) (λ second. root_unique first second root (content_in first root) (λ d. d)))
 
 telling_unique : (root : List ℕ) (result : Result Report ReportFault) → IsUnique (telling root result)
-telling_unique root (Ok report) s t b c one other = fitting_unique (report_status report) (report_lines report) s t b c one other
+telling_unique root (Ok found) s t b c one other = fitting_unique (report_status found) (report_lines found) s t b c one other
 telling_unique root (Err RootUndeclared) s t b c one other = refusing_unique (root_undeclared root) s t b c one other
 telling_unique root (Err (PairsOver name)) s t b c one other = refusing_unique (pairs_over name) s t b c one other
 telling_unique root (Err NoMemory) s t b c one other = absurd one
