@@ -1,10 +1,10 @@
 -- The elements whose start is reached are the useful ones.
-use Rattle.std.proofs.Common.{◌≡◌, ◌<◌, ◌+◌, ◌-◌, ◌/◌, ◌%◌, ◌==◌, ◌||◌, ◌⊎◌, ℕ, List, [], ◌∷◌, ◌++◌, Bool, true, false, cond, Option, Some, None, bytes_eq, slice_get, get_or, length, IsTrue, inl, inr, refl, sym, ap, ◌∙◌, subst, arith, true≢false}
+use Rattle.std.proofs.Common.{◌≡◌, ◌<◌, ◌-◌, ◌/◌, ◌%◌, ◌==◌, ◌||◌, ◌⊎◌, ℕ, List, [], ◌∷◌, ◌++◌, Bool, true, false, cond, Some, bytes_eq, slice_get, inl, inr, refl, sym, ap, ◌∙◌, subst, arith, true≢false}
 use Rattle.std.specs.Prelude.{option_and_then}
 use Rattle.std.specs.Bool.{Decides}
 use Rattle.std.specs.List.{AllByRecursion}
 use Rattle.std.specs.Option.{option_map_or}
-use Rattle.std.proofs.lemmas.Bool.{or_left, or_right, eqb-true}
+use Rattle.std.proofs.lemmas.Bool.{or_left, or_right}
 use Rattle.attribute_types.proofs.TextTests.{on_test, bytes_same, bytes_own}
 use Rattle.content_models.specs.declared.content.Content.{Content}
 use Rattle.content_models.specs.Model.{Chars, among}
@@ -22,13 +22,13 @@ use Rattle.tree_costs.proofs.Places.{has_place, stands_at, is_at}
 use Rattle.tagset_compare.specs.Chains.{IsLiveChild, Chain}
 use Rattle.tagset_compare.specs.Finite.{is_finite, live_of}
 use Rattle.tagset_compare.specs.Live.{AreLive}
-use Rattle.tagset_compare.specs.Useful.{TellUseful, size_at, sum_at, number_at, steps_numbers, children_at, root_numbers, count_numbers}
+use Rattle.tagset_compare.specs.Useful.{size_at, sum_at, number_at, steps_numbers, children_at, root_numbers, count_numbers}
 use Rattle.tagset_compare.proofs.Broken.{declared}
 use Rattle.tagset_compare.proofs.Judging.{each_to, each_from}
 use Rattle.tagset_compare.proofs.Lively.{are_live}
 use Rattle.tagset_compare.proofs.Numbers.{documents_by_costs, ends_told}
 use Rattle.tagset_compare.proofs.Reaching.{useful_by_chains}
-use Rattle.tagset_compare.proofs.Stepped.{element_of, state_of, not_zero, step_into, step_leads, next_small, Parsed, parsed, Rooted, rooted, child_in, step, step_at}
+use Rattle.tagset_compare.proofs.Stepped.{element_of, state_of, step_into, step_leads, next_small, Parsed, parsed, rooted, child_in, step, step_at}
 
 -- ---- ways and lists, one more
 

@@ -1,5 +1,5 @@
 -- What is gathered of the elements, one more at a time.
-use Rattle.std.proofs.Common.{◌≡◌, ◌≤◌, ◌<◌, ◌+◌, ◌-◌, ℕ, zero, suc, List, [], ◌∷◌, ◌++◌, length, get_or, map, take, drop, Bool, true, false, Option, Some, None, MatchOption, slice_get, Result, Ok, Err, IsTrue, ◌⊎◌, inl, inr, refl, sym, ap, ◌∙◌, subst, arith, true≢false}
+use Rattle.std.proofs.Common.{◌≡◌, ◌≤◌, ◌<◌, ◌+◌, ℕ, zero, suc, List, [], ◌∷◌, ◌++◌, length, get_or, map, take, drop, Bool, true, false, Option, Some, None, slice_get, Result, Ok, Err, IsTrue, inl, inr, refl, sym, ap, ◌∙◌, subst, arith, true≢false}
 use Rattle.std.specs.Prelude.{is_some, option_map, option_and_then}
 use Rattle.std.specs.Bool.{Decides}
 use Rattle.content_models.specs.declared.content.Content.{Content}
@@ -12,12 +12,11 @@ use Rattle.decl_set.specs.declared.breaks.Cause.{Cause}
 use Rattle.model_inclusion.specs.Included.{TellEnds}
 use Rattle.tree_costs.specs.declared.least.Least.{Least}
 use Rattle.tree_costs.specs.declared.least.LeastRow.{LeastRow}
-use Rattle.tree_costs.specs.Leasts.{IsExact, FitRows, place_of, row_of}
+use Rattle.tree_costs.specs.Leasts.{IsExact, FitRows, row_of}
 use Rattle.tree_costs.proofs.Places.{is_at}
 use Rattle.tagset_compare.specs.declared.causes.Judged.{Judged}
 use Rattle.tagset_compare.specs.declared.fault.ReportFault.{ReportFault}
 use Rattle.tagset_compare.specs.declared.fault.ReportFault.TheVariants.{RootUndeclared, PairsOver, NoMemory}
-use Rattle.tagset_compare.specs.declared.outcome.Report.{Report}
 use Rattle.tagset_compare.specs.Finite.{is_finite}
 use Rattle.tagset_compare.specs.Gathered.{Finds, FindsAt, sums_of, broken_by, broken_at, one_if}
 use Rattle.tagset_compare.specs.Judged.{IsCause, Judges}

@@ -1,11 +1,10 @@
 -- A report is one: no two answers can be given.
-use Rattle.std.proofs.Common.{◌≡◌, ◌≤◌, ◌<◌, ◌+◌, ℕ, List, [], ◌∷◌, ◌++◌, length, Option, Some, None, Result, Ok, Err, IsTrue, ◌⊎◌, inl, inr, refl, sym, ap, ◌∙◌, subst, arith, true≢false, Contains}
+use Rattle.std.proofs.Common.{◌≡◌, ◌≤◌, ◌+◌, ℕ, List, [], ◌∷◌, ◌++◌, length, Option, Some, None, Ok, Err, IsTrue, ◌⊎◌, inl, inr, refl, sym, ap, ◌∙◌, subst, arith, true≢false}
 use Rattle.std.specs.Prelude.{is_some}
 use Rattle.content_models.specs.declared.content.Content.{Content}
 use Rattle.content_models.specs.Model.{Chars}
 use Rattle.decl_set.specs.Declarations.{Declarations, Element, content_in}
 use Rattle.decl_set.specs.declared.breaks.BrokenDecl.{BrokenDecl}
-use Rattle.model_inclusion.specs.Reaching.{Member}
 use Rattle.model_inclusion.proofs.Members.{to_member, contains_of}
 use Rattle.model_inclusion.proofs.Unique.{same_pairs}
 use Rattle.tagset_compare.specs.declared.fault.ReportFault.{ReportFault}

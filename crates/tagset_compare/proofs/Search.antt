@@ -1,15 +1,15 @@
 -- One turn of the search for useful elements, and the flags at its end.
-use Rattle.std.proofs.Common.{◌≡◌, ◌≤◌, ◌<◌, ◌+◌, ◌*◌, ℕ, suc, List, [], ◌∷◌, ◌++◌, length, get_or, set as put, Bool, false, true, Some, slice_get, inl, inr, sym, ap, ◌∙◌, subst, arith, replicate}
+use Rattle.std.proofs.Common.{◌≡◌, ◌<◌, ◌+◌, ◌*◌, ℕ, List, [], ◌∷◌, ◌++◌, length, get_or, set as put, Bool, false, true, inl, inr, sym, ap, ◌∙◌, subst, arith, replicate}
 use Rattle.std.specs.Bool.{Decides}
 use Rattle.std.proofs.lemmas.Bool.{cases_lt}
-use Rattle.std.proofs.lemmas.List.{length-replicate, nil_from_length, length-append, get_or_append_left}
+use Rattle.std.proofs.lemmas.List.{length-replicate, nil_from_length, get_or_append_left}
 use Rattle.std.proofs.lemmas.Option.{slice_get_within}
 use Rattle.std.proofs.Math.Seq.{get_or-append_seam}
 use Rattle.content_models.specs.Model.{Chars}
 use Rattle.decl_set.specs.Asked.{IsKept}
-use Rattle.decl_set.specs.Declarations.{Declarations, Element}
+use Rattle.decl_set.specs.Declarations.{Declarations}
 use Rattle.decl_set.specs.Validity.{IsUseful}
-use Rattle.model_inclusion.specs.Reaching.{Member, Reaches, Working, StaysWithin, unseen, visit}
+use Rattle.model_inclusion.specs.Reaching.{Member, Reaches, Working, unseen, visit}
 use Rattle.model_inclusion.proofs.Visit as go
 use Rattle.tree_costs.specs.declared.least.Least.{Least}
 use Rattle.tree_costs.specs.declared.least.LeastRow.{LeastRow}

@@ -1,12 +1,10 @@
 -- What a number leads to.
-use Rattle.std.proofs.Common.{◌≡◌, ◌≤◌, ◌<◌, ◌+◌, ◌-◌, ◌*◌, ◌/◌, ◌%◌, ◌==◌, ◌&&◌, ◌⊎◌, ℕ, zero, suc, List, [], ◌∷◌, ◌++◌, length, map, drop, Bool, true, false, cond, Option, Some, None, slice_get, inl, inr, refl, sym, ap, ◌∙◌, subst, arith, true≢false}
-use Rattle.std.specs.List.{AllByRecursion}
+use Rattle.std.proofs.Common.{◌≡◌, ◌≤◌, ◌<◌, ◌+◌, ◌-◌, ◌*◌, ◌/◌, ◌%◌, ◌==◌, ◌&&◌, ◌⊎◌, ℕ, zero, suc, List, [], ◌∷◌, ◌++◌, length, map, drop, Bool, true, false, cond, Option, Some, None, slice_get, inl, inr, refl, sym, ap, ◌∙◌, subst, arith}
 use Rattle.std.specs.Prelude.{option_map}
 use Rattle.std.proofs.lemmas.Bool.{and_parts, and_from, ne_eqb, eq-eqb}
 use Rattle.std.proofs.lemmas.List.{length-map}
 use Rattle.std.proofs.lemmas.Nat.{div-mul-add, mod-mul-add}
 use Rattle.std.proofs.lemmas.Option.{slice_get_within, slice_get-map}
-use Rattle.attribute_types.proofs.TextTests.{on_test}
 use Rattle.content_models.specs.declared.content.Content.{Content}
 use Rattle.content_models.specs.declared.content.Content.TheVariants.{Empty, Any, Mixed, Children}
 use Rattle.content_models.specs.Model.{Chars}
@@ -25,7 +23,7 @@ use Rattle.model_inclusion.specs.Reaching.{Member, StaysWithin, visit}
 use Rattle.model_inclusion.proofs.Members.{to_member, contains_of, member-left, member-right, member-cases}
 use Rattle.tree_costs.specs.declared.least.LeastRow.{LeastRow}
 use Rattle.tree_costs.specs.Leasts.{place_of}
-use Rattle.tree_costs.proofs.Places.{stands_at, is_at}
+use Rattle.tree_costs.proofs.Places.{stands_at}
 use Rattle.tree_costs.proofs.Steps.{follows_in, steps_from}
 use Rattle.tagset_compare.specs.Finite.{is_finite}
 use Rattle.tagset_compare.specs.Useful.{size_at, sum_at, number_at, step_numbers, steps_numbers, children_at, root_numbers, next_numbers, count_numbers}

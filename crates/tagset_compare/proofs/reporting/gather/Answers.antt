@@ -1,4 +1,4 @@
-use Rattle.std.proofs.Common.{arith, ◌≡◌, ◌<◌, ◌+◌, ◌-◌, length, get_or, false, refl, ap}
+use Rattle.std.proofs.Common.{arith, ◌<◌, ◌+◌, ◌-◌, length, get_or, false, refl, ap}
 use Rattle.tagset_compare.proofs.Gathering.{few_pairs, turned, fault_turned}
 use Rattle.tagset_compare.proofs.reporting.gather.Goals as goal
 

@@ -1,4 +1,4 @@
-use Rattle.std.proofs.Common.{arith, ◌≡◌, ◌<◌, length, sym, ◌∙◌}
+use Rattle.std.proofs.Common.{arith, ◌<◌, length, sym, ◌∙◌}
 use Rattle.tagset_compare.specs.Useful.{number_at}
 use Rattle.tagset_compare.proofs.Stepped.{root_bound}
 use Rattle.tagset_compare.proofs.useful.mark_root.Goals as goal

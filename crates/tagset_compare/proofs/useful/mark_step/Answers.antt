@@ -1,5 +1,4 @@
-use Rattle.std.proofs.Common.{arith, ◌≡◌, ◌<◌, length, sym, ◌∙◌}
-use Rattle.tagset_compare.specs.Useful.{number_at}
+use Rattle.std.proofs.Common.{arith, length, sym, ◌∙◌}
 use Rattle.tagset_compare.proofs.Stepped.{both_bound}
 use Rattle.tagset_compare.proofs.useful.mark_step.Goals as goal
 

@@ -1,4 +1,4 @@
-use Rattle.std.proofs.Common.{arith, ◌≡◌, ◌<◌, ◌≤◌, ◌∙◌, length, slice_get, Some, None}
+use Rattle.std.proofs.Common.{arith, ◌<◌, ◌∙◌, length, Some, None}
 use Rattle.std.proofs.lemmas.Option.{slice_get_within}
 use Rattle.tagset_compare.specs.Useful.{children_at}
 use Rattle.tagset_compare.proofs.Stepped.{child_got, few_children, marked_more, all_marked, step_bound}

@@ -1,4 +1,4 @@
-use Rattle.std.proofs.Common.{arith, rules, ℕ, Option, ◌≡◌, ◌*◌, ◌+◌, ◌++◌, ◌∷◌, [], replicate, false, length, ap, ◌∙◌, subst}
+use Rattle.std.proofs.Common.{arith, rules, ℕ, Option, ◌≡◌, ◌++◌, ◌∷◌, [], replicate, false, length, ap, ◌∙◌, subst}
 use Rattle.std.proofs.lemmas.Grind.{common_steps}
 use Rattle.model_inclusion.specs.Reaching.{Member, visit}
 use Rattle.tagset_compare.specs.Useful.{count_numbers, next_numbers}
