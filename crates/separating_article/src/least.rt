@@ -78,7 +78,7 @@ fn build_at(
 /// say.
 ///
 /// `TextOver` is answered exactly where the text that `write_article` gives of that tree has more than `limit` bytes. Each
-/// part is counted before it is made, so no more memory is taken than such a text needs.
+/// element is counted before it is put into the tree.
 pub fn least_article(
     alloc: Global,
     set: &DeclSet,
