@@ -1,5 +1,5 @@
 -- What the laws of least trees say of least articles.
-use Rattle.std.proofs.Common.{◌≡◌, ◌≤◌, ◌<◌, ℕ, suc, ◌+◌, arith}
+use Rattle.std.proofs.Common.{◌≤◌, ℕ, suc, ◌+◌, arith}
 use Rattle.content_models.specs.declared.content.Content.{Content}
 use Rattle.content_models.specs.Model.{Chars}
 use Rattle.document_trees.specs.Trees.{Items, nothing, element, chars, comment, pi}

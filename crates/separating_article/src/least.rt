@@ -29,13 +29,7 @@ pub fn least_size(set: &DeclSet, root: &Name, least: &Least) -> Option<u32>
 {
     match cost_of(set, root, least) {
         Cost::Inf => None,
-        Cost::Fin(size) => {
-            if size <= least.cap {
-                Some(size)
-            } else {
-                None
-            }
-        }
+        Cost::Fin(size) => { if size <= least.cap { Some(size) } else { None } }
     }
 }
 
