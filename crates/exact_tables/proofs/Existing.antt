@@ -1,12 +1,11 @@
 -- Where costs are numbers up to the cap there are chosen trees.
-use Rattle.std.proofs.Common.{◌≡◌, ◌==◌, List, [], ◌∷◌, ◌++◌, ℕ, zero, suc, ◌+◌, ◌≤◌, ◌<◌, ◌⊎◌, inl, inr, refl, sym, ap, ◌∙◌, subst, arith, Bool, true, false, Option, Some, None}
+use Rattle.std.proofs.Common.{◌≡◌, List, [], ◌∷◌, ◌++◌, ℕ, zero, suc, ◌+◌, ◌≤◌, ◌<◌, ◌⊎◌, inl, inr, refl, sym, ap, ◌∙◌, subst, arith, false, Option, Some, None}
 use Rattle.std.specs.Prelude.{is_some}
-use Rattle.std.proofs.lemmas.Bool.{both_ways, eqb-true, eq-eqb}
+use Rattle.std.proofs.lemmas.Bool.{both_ways}
 use Rattle.content_models.specs.declared.content.Content.{Content}
 use Rattle.content_models.specs.Model.{Chars}
 use Rattle.document_trees.specs.Trees.{Attribute, Items, nothing, element, Node, EachBelow, child_names, elements_in, size}
-use Rattle.position_automata.specs.Automata.{FollowsOn, Accepts}
-use Rattle.position_automata.proofs.Words.{Member}
+use Rattle.position_automata.specs.Automata.{FollowsOn}
 use Rattle.decl_set.specs.Declarations.{Declarations, content_in, attributes_in}
 use Rattle.decl_set.specs.Asked.{IsKept}
 use Rattle.decl_set.specs.Validity.{Meets, IsSeparating, HasDocument, Suits}
@@ -26,13 +25,13 @@ use Rattle.bound_checker.specs.Kinds.{Feasible}
 use Rattle.attlist_merge.specs.Shown.{required_of}
 use Rattle.exact_tables.specs.LeastTrees.{IsFirst}
 use Rattle.exact_tables.specs.Chosen.{odd_atts, odd_front, past, AttainsOdd, StopsOdd, OddFrom, AttainsKind11, AttainsKind10, AttainsKind9, AttainsWrong, WrongFrom, IsChosenTop, LeastExists, ChosenExists}
-use Rattle.tree_costs.proofs.Costs.{at_most-antisym, bounds-sum, sum-mono, sum-is, below-cut, attained-is}
+use Rattle.tree_costs.proofs.Costs.{at_most-antisym, bounds-sum, sum-is, below-cut, attained-is}
 use Rattle.bound_checker.proofs.Running.{runs-of, derives-of}
 use Rattle.decl_set.proofs.Suiting.{met, meets, suited}
 use Rattle.bound_checker.proofs.Suiting.{suits_over}
 use Rattle.bound_checker.proofs.Sound.{m-bounds, g-bounds, f-bounds}
 use Rattle.exact_tables.proofs.Closing.{exact_is_feasible, start_listed, listed-more}
-use Rattle.bound_checker.proofs.Stepping.{accept_to, accept_from, steps_from}
+use Rattle.bound_checker.proofs.Stepping.{accept_to, accept_from}
 use Rattle.position_automata.proofs.Stepping.{on_to, on_none}
 use Rattle.exact_tables.proofs.Built.{parts, fin-same, step_of}
 use Rattle.exact_tables.proofs.Growing.{by-bool, same-cost, first-of, between, declared_of, told_step, has_document, least-exists, least_top-exists, one-more, least_tree_exists}

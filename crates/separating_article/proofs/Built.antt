@@ -1,17 +1,17 @@
 -- What a build answers, by the tree that is the least one.
-use Rattle.std.proofs.Common.{◌≡◌, ◌∙◌, ◌<◌, ◌≤◌, ℕ, ◌+◌, List, [], refl, sym, ap, subst, arith, Option, Some, None, Result, Ok, Err, slice_get, IfSome}
+use Rattle.std.proofs.Common.{◌≡◌, ◌∙◌, ◌<◌, ◌≤◌, ℕ, List, [], sym, ap, subst, arith, Some, None, Result, Ok, Err, slice_get, IfSome}
 use Rattle.std.specs.Prelude.{option_and_then}
 use Rattle.std.specs.Option.{option_map_or}
 use Rattle.content_models.specs.Model.{Chars}
-use Rattle.document_trees.specs.Trees.{Node, size}
+use Rattle.document_trees.specs.Trees.{Node}
 use Rattle.decl_set.specs.Asked.{IsKept}
 use Rattle.decl_set.specs.Declarations.{Declarations}
 use Rattle.tree_costs.specs.declared.cost.Cost.TheVariants.{Fin, Inf}
 use Rattle.tree_costs.specs.declared.least.Least.{Least}
-use Rattle.tree_costs.specs.Leasts.{place_of, m_of, p_of, IsExact}
+use Rattle.tree_costs.specs.Leasts.{place_of, m_of, IsExact}
 use Rattle.tree_costs.proofs.Places.{stands_at}
 use Rattle.separating_article.specs.Articles.{HasLeast, IsLeastOf, text_size, Builds}
-use Rattle.separating_article.specs.Building.{IsTree, HasTree, StandsAt, TellsOf, Tells}
+use Rattle.separating_article.specs.Building.{IsTree, HasTree, StandsAt, Tells}
 use Rattle.separating_article.specs.Choosing.{next_step}
 use Rattle.separating_article.specs.Sizes.{written_size}
 use Rattle.separating_article.specs.Growing.{Starts, Stands, IsUnderWay, Grown}

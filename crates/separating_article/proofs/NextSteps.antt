@@ -1,12 +1,11 @@
 -- The step that is taken is that of least trees.
-use Rattle.std.proofs.Common.{◌≡◌, ◌∙◌, ◌≤◌, ◌<◌, ℕ, zero, suc, ◌+◌, List, [], ◌∷◌, Bool, true, false, cond, ◌&&◌, map, find, length, drop, refl, sym, ap, subst, arith, inl, inr, Option, Some, None, slice_get, true≢false}
+use Rattle.std.proofs.Common.{◌≡◌, ◌∙◌, ◌≤◌, ℕ, zero, suc, ◌+◌, List, [], ◌∷◌, Bool, true, false, cond, ◌&&◌, map, find, length, drop, refl, sym, ap, subst, arith, inl, inr, Option, Some, None, slice_get}
 use Rattle.std.specs.Prelude.{nat_lt, is_none, option_map, option_and_then}
 use Rattle.std.specs.Option.{option_map_or}
 use Rattle.std.proofs.lemmas.Bool.{both_ways, and_from, and_parts, lt-ltb}
 use Rattle.std.proofs.lemmas.List.{length-map}
 use Rattle.attribute_types.proofs.TextTests.{on_test}
-use Rattle.attlist_merge.specs.Shown.{required_of}
-use Rattle.attlist_merge.proofs.Turns.{drop_step, drop_past, drop_all}
+use Rattle.attlist_merge.proofs.Turns.{drop_step, drop_all}
 use Rattle.content_models.specs.declared.content.Content.{Content}
 use Rattle.content_models.specs.Model.{Chars}
 use Rattle.document_trees.specs.Trees.{Items, nothing, element, chars, comment, pi}
@@ -14,8 +13,8 @@ use Rattle.position_automata.specs.Automata.{states, Accepts}
 use Rattle.position_automata.specs.Stepping.{does_accept}
 use Rattle.position_automata.proofs.Stepping.{accept_within}
 use Rattle.decl_set.specs.Asked.{IsKept}
-use Rattle.decl_set.specs.Children.{child_step, place_in}
-use Rattle.decl_set.specs.Declarations.{Declarations, Element, name_of, content_in, attributes_in}
+use Rattle.decl_set.specs.Children.{child_step}
+use Rattle.decl_set.specs.Declarations.{Declarations, Element, name_of, content_in}
 use Rattle.decl_set.specs.Steps.{steps_in, steps_at}
 use Rattle.decl_set.proofs.Found.{found_at}
 use Rattle.tree_costs.specs.declared.cost.Cost.{Cost}
@@ -26,8 +25,7 @@ use Rattle.tree_costs.specs.Leasts.{place_of, m_of, p_of}
 use Rattle.tree_costs.proofs.Costs.{order_to, order_from, at_most-refl, at_most-antisym}
 use Rattle.tree_costs.proofs.Places.{has_place, is_at}
 use Rattle.bound_checker.proofs.Stepping.{accept_to, accept_from, few}
-use Rattle.exact_tables.specs.LeastTrees.{IsFirst, AttainsLeast, LeastFrom}
-use Rattle.exact_tables.proofs.Choosing.{same-some}
+use Rattle.exact_tables.specs.LeastTrees.{IsFirst, AttainsLeast}
 use Rattle.separating_article.specs.Choosing.{Step, is_same, m_at, p_at, attains, steps_from, first_step, accepts_in, declared_step, next_step}
 use Rattle.separating_article.specs.Sizes.{is_empty}
 use Rattle.separating_article.specs.Growing.{Grows, IsNext}

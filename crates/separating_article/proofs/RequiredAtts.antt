@@ -1,12 +1,12 @@
 -- Required attributes that are put behind others in turn.
-use Rattle.std.proofs.Common.{◌≡◌, ◌∙◌, ◌<◌, ℕ, ◌+◌, List, [], ◌∷◌, ◌++◌, drop, refl, sym, ap, arith, append_assoc, Option, Some, None, Err, slice_get}
+use Rattle.std.proofs.Common.{◌≡◌, ◌∙◌, ℕ, ◌+◌, List, [], ◌∷◌, ◌++◌, drop, refl, sym, ap, arith, append_assoc, Option, Some, None, Err, slice_get}
 use Rattle.std.specs.Option.{option_map_or}
 use Rattle.document_trees.specs.Trees.{Attribute}
 use Rattle.attlist_merge.specs.Lists.{Definitions, Entry}
 use Rattle.attlist_merge.specs.Oddness.{chosen}
 use Rattle.attlist_merge.specs.Shown.{required_of}
 use Rattle.attlist_merge.proofs.Turns.{drop_step, drop_past}
-use Rattle.separating_article.specs.Sizes.{attribute_size, atts_size}
+use Rattle.separating_article.specs.Sizes.{atts_size}
 use Rattle.separating_article.specs.Growing.{PutsAtts}
 use Rattle.separating_article.specs.declared.fault.BuildOver.{BuildOver}
 use Rattle.separating_article.specs.declared.fault.BuildOver.TheVariants.{TextOver, NoMemory}

@@ -1,15 +1,15 @@
 -- The steps of a tree under way, and all of them.
-use Rattle.std.proofs.Common.{◌≡◌, ◌∙◌, ◌<◌, ◌≤◌, ℕ, ◌+◌, ◌-◌, ◌*◌, List, [], ◌∷◌, ◌++◌, Bool, true, false, cond, refl, sym, ap, subst, arith, Option, Some, None, Result, Ok, Err, slice_get, IfSome}
+use Rattle.std.proofs.Common.{◌≡◌, ◌∙◌, ◌<◌, ◌≤◌, ℕ, ◌+◌, ◌-◌, ◌*◌, List, [], ◌∷◌, ◌++◌, Bool, true, false, cond, sym, ap, subst, arith, Some, None, Ok, Err, slice_get, IfSome}
 use Rattle.std.specs.Bool.{OnTrue, OnFalse}
 use Rattle.content_models.specs.declared.content.Content.{Content}
 use Rattle.content_models.specs.Model.{Chars}
-use Rattle.document_trees.specs.Trees.{Items, nothing, element, Node, elements_in, size}
+use Rattle.document_trees.specs.Trees.{nothing, element, elements_in}
 use Rattle.decl_set.specs.Asked.{IsKept}
 use Rattle.decl_set.specs.Declarations.{Declarations}
 use Rattle.tree_costs.specs.declared.least.Least.{Least}
 use Rattle.separating_article.specs.Choosing.{next_step}
 use Rattle.separating_article.specs.Sizes.{written_size}
-use Rattle.separating_article.specs.Growing.{Starts, Stands, StandsIn, steps_of, done, IsUnderWay, Keeps, GoesOn, IsWhole, IsOver, Steps, Enters, Grown, with_child, Leaves}
+use Rattle.separating_article.specs.Growing.{Starts, Stands, steps_of, done, IsUnderWay, Keeps, GoesOn, IsWhole, Steps, Enters, Grown, with_child, Leaves}
 use Rattle.separating_article.specs.declared.fault.BuildOver.{BuildOver}
 use Rattle.separating_article.specs.declared.fault.BuildOver.TheVariants.{TextOver, NoMemory}
 use Rattle.separating_article.specs.declared.growing.Started.{Started}

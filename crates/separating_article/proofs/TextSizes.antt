@@ -1,10 +1,10 @@
 -- How many bytes texts have, part by part.
-use Rattle.std.proofs.Common.{◌≡◌, ◌∙◌, ℕ, ◌+◌, List, [], ◌∷◌, ◌++◌, Bool, true, false, cond, length, refl, sym, ap, arith, length-append, encode_utf8_all, codes}
+use Rattle.std.proofs.Common.{◌≡◌, ◌∙◌, ℕ, ◌+◌, List, [], ◌∷◌, ◌++◌, false, length, refl, ap, arith, length-append, encode_utf8_all, codes}
 use Rattle.std.specs.List.{flat_map}
 use Rattle.std.proofs.lemmas.Str.{encodes-append}
-use Rattle.document_trees.specs.Trees.{Attribute, Items, nothing, element, chars, comment, pi, Node}
-use Rattle.article_tree.specs.Writing.{value_char, written_attribute, enclosed, written, written_run, written_comment, written_pi, write}
-use Rattle.separating_article.specs.Sizes.{bytes, attribute_size, atts_size, names_size, is_empty, items_size, written_size, SizeOfText}
+use Rattle.document_trees.specs.Trees.{Attribute, Items, nothing, element, chars, comment, pi}
+use Rattle.article_tree.specs.Writing.{value_char, written_attribute, enclosed, written, written_run, written_comment, written_pi}
+use Rattle.separating_article.specs.Sizes.{bytes, attribute_size, atts_size, names_size, is_empty, items_size, SizeOfText}
 
 pub bytes-append : (x y : List ℕ) → bytes (x ++ y) ≡ bytes x + bytes y
 bytes-append x y = ap length (encodes-append x y) ∙ length-append (encode_utf8_all x) (encode_utf8_all y)

@@ -1,7 +1,6 @@
 -- What a tree under way comes to stays the same, step by step.
-use Rattle.std.proofs.Common.{◌≡◌, ◌∙◌, ◌<◌, ◌≤◌, ℕ, ◌+◌, ◌-◌, ◌*◌, List, [], ◌∷◌, ◌++◌, Bool, true, false, cond, refl, sym, ap, subst, arith, Option, Some, None, Result, Ok, Err, slice_get, IfSome}
+use Rattle.std.proofs.Common.{◌≡◌, ◌∙◌, ◌<◌, ◌≤◌, ℕ, ◌+◌, ◌-◌, ◌*◌, List, [], ◌∷◌, ◌++◌, Bool, refl, sym, ap, subst, arith, Option, Some, None, Result, Ok, Err, slice_get, IfSome}
 use Rattle.std.specs.Prelude.{is_none}
-use Rattle.std.specs.Bool.{OnTrue, OnFalse}
 use Rattle.content_models.specs.declared.content.Content.{Content}
 use Rattle.content_models.specs.Model.{Chars}
 use Rattle.document_trees.specs.Trees.{Items, nothing, element, chars, comment, pi, Node, joined, elements_in, size}
@@ -14,11 +13,10 @@ use Rattle.exact_tables.proofs.Choosing.{same-some, same-node}
 use Rattle.separating_article.specs.Articles.{IsLeastOf}
 use Rattle.separating_article.specs.Choosing.{next_step}
 use Rattle.separating_article.specs.Sizes.{atts_size, names_size, is_empty, items_size, written_size}
-use Rattle.separating_article.specs.Growing.{Starts, start_size, bare_node, Grows, IsNext, Gets, EachGets, ended, around, all_size, Stands, StandsIn, steps_of, done, IsUnderWay, Keeps, GoesOn, IsWhole, IsOver, Steps, Enters, Grown, with_child, Leaves}
+use Rattle.separating_article.specs.Growing.{Starts, bare_node, Grows, IsNext, Gets, EachGets, ended, around, all_size, Stands, steps_of, with_child}
 use Rattle.separating_article.specs.declared.fault.BuildOver.{BuildOver}
-use Rattle.separating_article.specs.declared.fault.BuildOver.TheVariants.{TextOver, NoMemory}
+use Rattle.separating_article.specs.declared.fault.BuildOver.TheVariants.{TextOver}
 use Rattle.separating_article.specs.declared.growing.Started.{Started}
-use Rattle.separating_article.specs.declared.growing.Growing.{Growing}
 use Rattle.separating_article.proofs.NextSteps.{told, empty_is}
 
 -- ---- items behind others

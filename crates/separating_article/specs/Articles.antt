@@ -9,7 +9,7 @@ use Rattle.tree_costs.specs.declared.cost.Cost.TheVariants.{Fin, Inf}
 use Rattle.tree_costs.specs.declared.least.Least.{Least}
 use Rattle.tree_costs.specs.Leasts.{m_of, p_of, IsExact}
 use Rattle.exact_tables.specs.LeastTrees.{IsLeastTree, IsBuilt}
-use Rattle.article_tree.specs.Writing.{write}
+use Rattle.article_tree.specs.Writing.{IsWritable, write}
 use Rattle.separating_article.specs.declared.fault.BuildOver.{BuildOver}
 use Rattle.separating_article.specs.declared.fault.BuildOver.TheVariants.{TextOver, NoMemory}
 
@@ -45,9 +45,15 @@ abbrev pub LeastArticleExists : Type 0
 LeastArticleExists =
     (set : Declarations) (least : Least) (root : Chars) → IsKept set → IsExact set least → HasLeast set least root → (node : Node) × IsLeastOf set least root node
 
--- it is a document that is valid from the element, of that size, and can be written and read back, with at most 1,024
--- elements open
+-- it is a document that is valid from the element, of that size, with runs that can be written and at most 1,024 elements
+-- open
 abbrev pub LeastArticleIsBuilt : Type 0
 LeastArticleIsBuilt =
     (set : Declarations) (least : Least) (root : Chars) (n : ℕ) → IsKept set → IsExact set least → m_of set least root ≡ Fin n → n ≤ least.cap
     → (node : Node) → IsLeastOf set least root node → IsBuilt 1024 set root n node
+
+-- and so it is writable: what is written of it is read back
+abbrev pub LeastArticleIsWritable : Type 0
+LeastArticleIsWritable =
+    (set : Declarations) (least : Least) (root : Chars) → IsKept set → IsExact set least → HasLeast set least root
+    → (node : Node) → IsLeastOf set least root node → IsWritable node

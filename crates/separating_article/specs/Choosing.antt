@@ -1,5 +1,5 @@
 -- The next step of a least tree, by the places of elements.
-use Rattle.std.specs.Prelude.{ℕ, Bool, true, false, ◌&&◌, List, map, find, nat_lt, slice_get, Option, Some, None, option_map, option_and_then, if◌then◌else◌}
+use Rattle.std.specs.Prelude.{ℕ, Bool, false, ◌&&◌, List, map, find, nat_lt, slice_get, Option, Some, None, option_map, option_and_then, if◌then◌else◌}
 use Rattle.std.specs.Option.{option_map_or}
 use Rattle.position_automata.specs.Automata.{states}
 use Rattle.position_automata.specs.Stepping.{does_accept}

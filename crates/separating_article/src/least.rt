@@ -29,13 +29,7 @@ pub fn least_size(set: &DeclSet, root: &Name, least: &Least) -> Option<u32>
 {
     match cost_of(set, root, least) {
         Cost::Inf => None,
-        Cost::Fin(size) => {
-            if size <= least.cap {
-                Some(size)
-            } else {
-                None
-            }
-        }
+        Cost::Fin(size) => { if size <= least.cap { Some(size) } else { None } }
     }
 }
 
@@ -78,7 +72,7 @@ fn build_at(
 /// say.
 ///
 /// `TextOver` is answered exactly where the text that `write_article` gives of that tree has more than `limit` bytes. Each
-/// part is counted before it is made, so no more memory is taken than such a text needs.
+/// element is counted before it is put into the tree.
 pub fn least_article(
     alloc: Global,
     set: &DeclSet,
