@@ -92,7 +92,7 @@ fn value(digits: &[char]) -> Option<u32>
     Some(value)
 }
 
-/// A number without leading zeros below 2^32.
+/// The number that digits write without leading zeros, where it is below 2^32, or None exactly where they write none.
 pub fn number(digits: &[char]) -> Option<u32>
     ensures { result ≡ short_number_in digits.now }
 {

@@ -1,6 +1,6 @@
 -- What words ask for.
 use Rattle.std.proofs.Common.{◌≡◌, ◌∙◌, ◌==◌, ◌&&◌, ℕ, ◌<◌, true, List, [], get_or, Some, None, Ok, Err, IfOk, IfSome, sym, subst, length, bytes_eq, codes}
-use Rattle.std.specs.Prelude.{Option, Result}
+use Rattle.std.specs.Prelude.{Option, Result, is_some}
 use Rattle.std.proofs.lemmas.List.{get_or_default}
 use Rattle.std.proofs.lemmas.Bool.{and_parts, eqb-true}
 use Rattle.jats_fault.specs.declared.fault.Fault.{Fault}
@@ -17,7 +17,7 @@ use Rattle.tagset_tool.specs.declared.answer.Stop.{Stop}
 use Rattle.tagset_tool.specs.declared.answer.Stop.TheVariants as stop
 use Rattle.tagset_tool.specs.Outcomes.{Outcome, after}
 use Rattle.tagset_tool.specs.Runs.{StopsAs}
-use Rattle.tagset_tool.specs.Words.{SetWords, word, set_by, is_compare, is_fill, is_report, is_validate, is_verify}
+use Rattle.tagset_tool.specs.Words.{SetWords, word, set_by, cap_in, is_compare, is_fill, is_least, is_report, is_validate, is_verify}
 
 -- what a place of the words has
 pub word_at : (words : List (List ℕ)) (i : ℕ) (x : List ℕ) → i < length words → x ≡ get_or words i x → x ≡ word words i
@@ -34,6 +34,10 @@ six_words words t = eqb-true (length words) 6 (and_parts (length words == 6) (by
 -- and so are those of `verify`
 pub six_verified : (words : List (List ℕ)) → is_verify words ≡ true → length words ≡ 6
 six_verified words t = eqb-true (length words) 6 (and_parts (length words == 6) (bytes_eq (word words 0) (codes "verify")) t).0
+
+-- words for a least article are five
+pub five_least : (words : List (List ℕ)) → is_least words ≡ true → length words ≡ 5
+five_least words t = eqb-true (length words) 5 (and_parts (length words == 5) (bytes_eq (word words 0) (codes "least") && is_some (cap_in (word words 4))) t).0
 
 -- those of `validate` are five, and those of `fill` four
 pub five_words : (words : List (List ℕ)) → is_validate words ≡ true → length words ≡ 5

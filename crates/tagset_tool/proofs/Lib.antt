@@ -4,6 +4,7 @@ pub mod Causes
 pub mod Counted
 pub mod Heads
 pub mod Leaving
+pub mod Lengths
 pub mod OneOutput
 pub mod Outcomes
 pub mod Present

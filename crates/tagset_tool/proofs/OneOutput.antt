@@ -1,6 +1,6 @@
 -- Words and files have one output.
 use Rattle.std.proofs.Common.{◌≡◌, ◌∙◌, ◌⊎◌, ◌↔◌, inl, inr, ℕ, Bool, true, false, List, [], ◌∷◌, ◌++◌, sym, ap, subst, Some, None, Ok, Err, IsTrue, refl}
-use Rattle.std.specs.Prelude.{Option, Result, is_some, encode_utf8_all}
+use Rattle.std.specs.Prelude.{Option, Result, is_some, encode_utf8_all, nat_le}
 use Rattle.std.specs.List.{AllByRecursion}
 use Rattle.content_models.specs.declared.content.Content.{Content}
 use Rattle.attlist_merge.specs.Lists.{Definitions}
@@ -11,6 +11,20 @@ use Rattle.dtd_flattener.specs.Flat.{flat_text}
 use Rattle.module_reader.specs.Sources.{Files, file_text}
 use Rattle.bound_checker.specs.Certificates.{read_lines}
 use Rattle.bound_checker.specs.Lines.{lines_of}
+use Rattle.document_trees.specs.Trees.{Node}
+use Rattle.dtd_scanner.specs.Walk.{◌>>=◌}
+use Rattle.entity_catalog.specs.Named.{Named}
+use Rattle.jats_fault.specs.declared.fault.Fault.{Fault}
+use Rattle.decl_set.specs.Asked.{IsKept as KeepsAll}
+use Rattle.module_reader.specs.Sets.{catalog_from, set_from}
+use Rattle.module_reader.proofs.Keeping.{set_kept}
+use Rattle.tree_costs.specs.declared.cost.Cost.{Cost}
+use Rattle.tree_costs.specs.declared.cost.Cost.TheVariants.{Fin, Inf}
+use Rattle.tree_costs.specs.declared.least.Least.{Least}
+use Rattle.tree_costs.specs.Leasts.{m_of}
+use Rattle.tree_costs.proofs.Unique.{one_least}
+use Rattle.separating_article.proofs.Trees.{one_least_article}
+use Rattle.tagset_tool.specs.commands.Least.{above_line, by_costs, by_size, least_from, least_in, least_text, leasts, none_line, sized}
 use Rattle.bound_checker.specs.Tabled.{costs_of}
 use Rattle.bound_checker.specs.Tests.{first_broken}
 use Rattle.bound_checker.specs.declared.check.Broken.{Broken}
@@ -25,10 +39,10 @@ use Rattle.tagset_compare.specs.declared.outcome.Report.{Report}
 use Rattle.tagset_compare.proofs.Once.{one_report}
 use Rattle.tagset_tool.specs.commands.Report.{reports, reported, telling, report_lines, report_status}
 use Rattle.tagset_tool.specs.Counts.{count_lines}
-use Rattle.tagset_tool.specs.Outcomes.{IsUnique, after, answering, fitting, refusing}
+use Rattle.tagset_tool.specs.Outcomes.{IsUnique, Outcome, after, answering, fitting, refusing}
 use Rattle.tagset_tool.specs.Output.{IsOutput, outcome_of, usage_line}
 use Rattle.tagset_tool.specs.Refusals.{cert_malformed, pairs_over, root_undeclared}
-use Rattle.tagset_tool.specs.Words.{Asked, SetWords, check, flatten, validate, fill, compare, report, verify, asked, set_by}
+use Rattle.tagset_tool.specs.Words.{Asked, SetWords, check, flatten, validate, fill, compare, report, least, verify, asked, set_by}
 use Rattle.article_files.specs.Bytes.{article_in}
 use Rattle.article_validator.specs.Faults.{fault_list}
 use Rattle.article_validator.specs.declared.fault.Invalid.{Invalid}
@@ -169,6 +183,41 @@ verifies_unique files name one other =
     after_unique (set_by files one) (λ first. after (set_by files other) (verifies_by files name first))
     (λ first. after_unique (set_by files other) (verifies_by files name first) (verified_unique files name first))
 
+-- ---- least articles
+
+sized_unique : (set : Declarations) (least : Least) (root : List ℕ) (n : ℕ) (within : Bool) → IsUnique (sized set least root n within)
+sized_unique set least root n false s t b c one other = answering_unique 0 (above_line least.cap) s t b c one other
+sized_unique set least root n true s t b c one other =
+    let same = one_least_article set least root one.0 other.0 one.1 other.1 in
+    fitting_unique 0 (least_text n other.0) s t b c (subst (λ (node : Node). fitting 0 (least_text n node) s b) same one.2) other.2
+
+by_size_unique : (set : Declarations) (least : Least) (root : List ℕ) (c : Cost) → IsUnique (by_size set least root c)
+by_size_unique set least root Inf s t b c one other = answering_unique 1 none_line s t b c one other
+by_size_unique set least root (Fin n) s t b c one other = sized_unique set least root n (nat_le n least.cap) s t b c one other
+
+by_costs_unique : (set : Declarations) (root : List ℕ) (cap : ℕ) → KeepsAll set → IsUnique (by_costs set root cap)
+by_costs_unique set root cap kept s t b c one other =
+    let same = one_least set one.0 other.0 kept one.2 other.2 (one.1 ∙ sym other.1) in
+    by_size_unique set other.0 root (m_of set other.0 root) s t b c (subst (λ (l : Least). by_size set l root (m_of set l root) s b) same one.3) other.3
+
+least_from_unique : (set : Declarations) (root : List ℕ) (cap : ℕ) (o : Option Content) → KeepsAll set → IsUnique (least_from set root cap o)
+least_from_unique set root cap None kept s t b c one other = refusing_unique (root_undeclared root) s t b c one other
+least_from_unique set root cap (Some content) kept s t b c one other = by_costs_unique set root cap kept s t b c one other
+
+-- a set that is read is kept
+read_kept : (files : Files) (r : Result Named Fault) (entry : List ℕ) (set : Declarations) → (r >>= λ named. set_from (record { files = files; catalog = named }) entry) ≡ Ok set → KeepsAll set
+read_kept files (Ok named) entry set is = (set_kept (record { files = files; catalog = named }) entry set is).0
+read_kept files (Err fault) entry set is = cc
+
+after_kept : (r : Result Declarations Fault) (next : Declarations → Outcome) → ((x : Declarations) → r ≡ Ok x → IsUnique (next x)) → IsUnique (after r next)
+after_kept (Err refusal) next each = refusing_unique refusal
+after_kept (Ok x) next each = each x refl
+
+leasts_unique : (files : Files) (words : SetWords) (root : List ℕ) (cap : ℕ) → IsUnique (leasts files words root cap)
+leasts_unique files words root cap =
+    after_kept (set_by files words) (least_in root cap)
+    (λ set is. least_from_unique set root cap (content_in set root) (read_kept files (catalog_from files words.catalog) words.entry set is))
+
 outcome_unique : (o : Option Asked) (files : Files) → IsUnique (outcome_of o files)
 outcome_unique None files = answering_unique 3 usage_line
 outcome_unique (Some (check words)) files = after_unique (set_by files words) (λ set. answering 0 (count_lines set)) (λ set. answering_unique 0 (count_lines set))
@@ -178,6 +227,7 @@ outcome_unique (Some (validate words root article)) files = validates_unique fil
 outcome_unique (Some (fill words article)) files = fills_unique files words article
 outcome_unique (Some (compare first second root)) files = compares_unique files first second root
 outcome_unique (Some (report first second root)) files = reports_unique files first second root
+outcome_unique (Some (least words root cap)) files = leasts_unique files words root cap
 outcome_unique (Some (verify certificate first second)) files = verifies_unique files certificate first second
 
 pub one_output : (words : List (List ℕ)) (files : Files) → IsUnique (IsOutput words files)

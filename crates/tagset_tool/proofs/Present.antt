@@ -1,6 +1,6 @@
 -- Outputs that are not the line of an absent module.
 use Rattle.std.proofs.Common.{◌≡◌, ◌∙◌, ℕ, lit<, Bool, true, false, ◌&&◌, List, [], ◌∷◌, ◌++◌, Some, None, Ok, Err, inl, inr, refl, sym, ap, subst, take, IsTrue, length, nat_lt, map, arith}
-use Rattle.std.specs.Prelude.{Option, Result, encode_utf8_all}
+use Rattle.std.specs.Prelude.{Option, Result, encode_utf8_all, nat_le}
 use Rattle.std.specs.List.{concat, flat_map}
 use Rattle.std.proofs.Math.Utf8.{encode}
 use Rattle.std.proofs.lemmas.Str.{encode_ascii}
@@ -14,6 +14,9 @@ use Rattle.article_validator.specs.Filling.{filled}
 use Rattle.article_validator.specs.declared.fault.Invalid.{Invalid}
 use Rattle.tree_costs.specs.declared.cost.Cost.{Cost}
 use Rattle.tree_costs.specs.declared.cost.Cost.TheVariants.{Fin, Inf}
+use Rattle.tree_costs.specs.declared.least.Least.{Least}
+use Rattle.tree_costs.specs.Leasts.{m_of}
+use Rattle.tagset_tool.specs.commands.Least.{above_line, by_size, least_from, least_in, least_text, none_line, sized}
 use Rattle.bound_checker.specs.Tabled.{costs_of}
 use Rattle.bound_checker.specs.Tests.{first_broken}
 use Rattle.bound_checker.specs.declared.check.Broken.{Broken}
@@ -166,3 +169,22 @@ checked_present first tables (Some broken) status bytes over = same_present byte
 pub certified_present : (first second : Declarations) (name : List ℕ) (read : Result Tables ℕ) (status : ℕ) (bytes : List ℕ) → certified first second name read status bytes → IsPresent bytes
 certified_present first second name (Err line) status bytes over = same_present bytes (line_of (cert_malformed name line)) over.1 (malformed_present name line)
 certified_present first second name (Ok tables) status bytes over = checked_present first tables (first_broken first second tables) status bytes over
+
+-- ---- least articles
+
+sized_present : (set : Declarations) (least : Least) (root : List ℕ) (n : ℕ) (within : Bool) (status : ℕ) (bytes : List ℕ) → sized set least root n within status bytes → IsPresent bytes
+sized_present set least root n false status bytes over = same_present bytes (above_line least.cap) over.1 (λ t. let off : IsTrue false = t in cc)
+sized_present set least root n true status bytes over =
+    size_present (nat_lt most_written (length (least_text n over.0))) 0 (least_text n over.0) status bytes (λ t. let off : IsTrue false = t in cc) over.2
+
+by_size_present : (set : Declarations) (least : Least) (root : List ℕ) (c : Cost) (status : ℕ) (bytes : List ℕ) → by_size set least root c status bytes → IsPresent bytes
+by_size_present set least root Inf status bytes over = same_present bytes none_line over.1 (λ t. let off : IsTrue false = t in cc)
+by_size_present set least root (Fin n) status bytes over = sized_present set least root n (nat_le n least.cap) status bytes over
+
+least_from_present : (set : Declarations) (root : List ℕ) (cap : ℕ) (o : Option Content) (status : ℕ) (bytes : List ℕ) → least_from set root cap o status bytes → IsPresent bytes
+least_from_present set root cap None status bytes over = same_present bytes (line_of (root_undeclared root)) over.1 (undeclared_present root)
+least_from_present set root cap (Some content) status bytes over = by_size_present set over.0 root (m_of set over.0 root) status bytes over.3
+
+-- nor is a least article
+pub least_present : (root : List ℕ) (cap : ℕ) (set : Declarations) (status : ℕ) (bytes : List ℕ) → least_in root cap set status bytes → IsPresent bytes
+least_present root cap set status bytes over = least_from_present set root cap (content_in set root) status bytes over

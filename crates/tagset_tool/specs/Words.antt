@@ -1,6 +1,8 @@
 -- What words ask for.
-use Rattle.std.specs.Prelude.{ℕ, ◌+◌, Bool, ◌==◌, ◌&&◌, List, [], length, Option, Some, None, Result, bytes_eq, codes, slice_index_or, if◌then◌else◌}
+use Rattle.std.specs.Prelude.{ℕ, ◌+◌, Bool, ◌==◌, ◌&&◌, List, [], length, Option, Some, None, Result, bytes_eq, codes, is_some, nat_le, option_and_then, slice_index_or, if◌then◌else◌}
+use Rattle.std.specs.Option.{option_map_or}
 use Rattle.jats_fault.specs.declared.fault.Fault.{Fault}
+use Rattle.bound_checker.specs.Spelled.{short_number_in}
 use Rattle.decl_set.specs.Declarations.{Declarations}
 use Rattle.module_reader.specs.Sets.{set_of}
 use Rattle.module_reader.specs.Sources.{Files}
@@ -18,6 +20,7 @@ pub data Asked : Type 0 where
   fill : SetWords → (article : List ℕ) → Asked
   compare : (first second : SetWords) (root : List ℕ) → Asked
   report : (first second : SetWords) (root : List ℕ) → Asked
+  least : SetWords → (root : List ℕ) (cap : ℕ) → Asked
   verify : (certificate : List ℕ) (first second : SetWords) → Asked
 
 abbrev pub word : List (List ℕ) → ℕ → List ℕ
@@ -55,6 +58,17 @@ is_compare words = length words == 7 && (bytes_eq (word words 0) (codes "compare
 abbrev pub is_report : List (List ℕ) → Bool
 is_report words = length words == 6 && bytes_eq (word words 0) (codes "report")
 
+-- a cap: a number without leading zeros, of at most 100,000
+abbrev pub cap_in : List ℕ → Option ℕ
+cap_in word = option_and_then (λ n. if nat_le n 100000 then Some n else None) (short_number_in word)
+
+abbrev pub cap_or_0 : List ℕ → ℕ
+cap_or_0 word = option_map_or (λ n. n) (cap_in word) 0
+
+-- least CATALOG ENTRY ROOT CAP
+abbrev pub is_least : List (List ℕ) → Bool
+is_least words = length words == 5 && (bytes_eq (word words 0) (codes "least") && is_some (cap_in (word words 4)))
+
 -- verify CERT CATALOG1 FIRST CATALOG2 SECOND
 abbrev pub is_verify : List (List ℕ) → Bool
 is_verify words = length words == 6 && bytes_eq (word words 0) (codes "verify")
@@ -67,6 +81,7 @@ asked words =
     else if is_fill words then Some (fill (set_words words 1) (word words 3))
     else if is_compare words then Some (compare (set_words words 1) (set_words words 3) (word words 5))
     else if is_report words then Some (report (set_words words 1) (set_words words 3) (word words 5))
+    else if is_least words then Some (least (set_words words 1) (word words 3) (cap_or_0 (word words 4)))
     else if is_verify words then Some (verify (word words 1) (set_words words 2) (set_words words 4))
     else None
 

@@ -4,6 +4,7 @@ pub mod check;
 pub mod compare;
 pub mod fill;
 pub mod flatten;
+pub mod least;
 pub mod report;
 pub mod validate;
 pub mod verify;

@@ -1,12 +1,13 @@
 //! The words of the command line, and the sets that they name.
 
-ghost use Rattle.std.specs.Prelude.{◌≡◌, ◌<◌, ◌+◌, IfSome, bytes_eq, length};
+ghost use Rattle.std.specs.Prelude.{◌≡◌, ◌≤◌, ◌<◌, ◌+◌, IfSome, bytes_eq, length};
 ghost use Rattle.std.specs.Option.{option_copied};
 ghost use Rattle.jats_io.specs.Causes.{HasCause};
 ghost use Rattle.module_reader.specs.Outcomes.{LoadFailed, IsAbsence, IsNumbered, Reads};
 ghost use Rattle.module_reader.specs.Sets.{set_of};
 ghost use Rattle.tagset_tool.specs.Words as spec;
 
+use bound_checker::number;
 use decl_set::DeclSet;
 use jats_chars::Text;
 use jats_io::Store;
@@ -61,6 +62,43 @@ pub fn is_report(words: &[Text]) -> bool
     ensures { result ≡ spec.is_report words.now }
 {
     words.len() == 6 && is_word(&words[0], &['r', 'e', 'p', 'o', 'r', 't'])
+}
+
+/// A cap: a number without leading zeros, of at most 100,000.
+fn cap_of(word: &Text) -> Option<u32>
+    ensures value { result ≡ spec.cap_in word.now }
+    ensures small { IfSome result (λ n. n ≤ 100000) }
+{
+    match number(word.as_slice()) {
+        None => None,
+        Some(n) => {
+            if n <= 100_000 {
+                Some(n)
+            } else {
+                None
+            }
+        }
+    }
+}
+
+/// The cap that a word writes, or 0 where it writes none.
+pub fn cap_or_0(word: &Text) -> u32
+    ensures value { result ≡ spec.cap_or_0 word.now }
+    ensures small { result ≤ 100000 }
+{
+    match cap_of(word) {
+        None => 0,
+        Some(cap) => cap,
+    }
+}
+
+/// Whether the words ask for a least article.
+pub fn is_least(words: &[Text]) -> bool
+    ensures { result ≡ spec.is_least words.now }
+{
+    words.len() == 5
+        && is_word(&words[0], &['l', 'e', 'a', 's', 't'])
+        && cap_of(&words[4]).is_some()
 }
 
 /// Whether the words ask to verify a certificate.
