@@ -78,9 +78,9 @@ run_advances entities w h n run inside some is within taken state apart =
     let spent = ap (λ (t : State). t.spent) state in
     record {
       same =
-      rw (state, taken) (subst (λ (k : ℕ). left entities true (map passage_of w.waiting.items) (moved p (p.at + k)) (put (state_of w.held) (chars cs (is_white cs) nothing)) ≡ left entities w.typed (map passage_of w.waiting.items) p (state_of w.held)) many
-      (letters_put entities cs (drop n text) w.typed (map passage_of w.waiting.items) p (state_of w.held) (sym (take-append-drop n text))
-      (subst (λ (k : ℕ). AreLetters (take k text) (drop k text)) (sym is) (run_letters text)) (omega (arith, some, many)) inside));
+          rw (state, taken) (subst (λ (k : ℕ). left entities true (map passage_of w.waiting.items) (moved p (p.at + k)) (put (state_of w.held) (chars cs (is_white cs) nothing)) ≡ left entities w.typed (map passage_of w.waiting.items) p (state_of w.held)) many
+          (letters_put entities cs (drop n text) w.typed (map passage_of w.waiting.items) p (state_of w.held) (sym (take-append-drop n text))
+          (subst (λ (k : ℕ). AreLetters (take k text) (drop k text)) (sym is) (run_letters text)) (omega (arith, some, many)) inside));
       nearer = omega (arith, some, within, most, spent);
       apart = apart;
     }

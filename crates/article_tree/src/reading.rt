@@ -14,11 +14,11 @@ use crate::outside::{step_outside, whole};
 use crate::runs::run_len;
 use crate::steps::{finish_text, step_inside};
 use crate::stops::{ArticleFault, Stand, refusal};
+use crate::written::is_white;
 use decl_set::DeclSet;
 use document_trees::Node;
 use jats_chars::{DecodeFault, NameList, Text, decode};
 use jats_fault::{Details, numbers};
-use crate::written::is_white;
 use std::alloc::Global;
 
 /// Characters that stand for themselves, as many as there are, or one token, inside of an element or of an included text.

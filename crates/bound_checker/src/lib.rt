@@ -24,5 +24,5 @@ pub use laws::{certificate_law, odd_law, sound_law, tests_law};
 pub use printing::print_cert;
 pub use reading::read_cert;
 pub use tables::{PairRow, PairRows, Row, Rows, StateRow, StateRows, Tables};
-pub use words::number;
 pub use tree_costs::{Cost, CostList, Least, LeastRow, LeastRows, sum};
+pub use words::number;

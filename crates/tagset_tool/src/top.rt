@@ -15,7 +15,9 @@ use crate::commands::least::least_words;
 use crate::commands::report::report_words;
 use crate::commands::validate::validate_words;
 use crate::commands::verify::verify_words;
-use crate::words::{is_check, is_compare, is_fill, is_flatten, is_least, is_report, is_validate, is_verify};
+use crate::words::{
+    is_check, is_compare, is_fill, is_flatten, is_least, is_report, is_validate, is_verify,
+};
 use jats_chars::Text;
 use jats_io::{Sink, Store, write_all};
 use std::alloc::Global;

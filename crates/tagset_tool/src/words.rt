@@ -71,13 +71,7 @@ fn cap_of(word: &Text) -> Option<u32>
 {
     match number(word.as_slice()) {
         None => None,
-        Some(n) => {
-            if n <= 100_000 {
-                Some(n)
-            } else {
-                None
-            }
-        }
+        Some(n) => { if n <= 100_000 { Some(n) } else { None } }
     }
 }
 

@@ -85,12 +85,7 @@ fn above(alloc: Global, cap: u32) -> Result<Answer, NoMemory>
 }
 
 /// The answer by least costs.
-fn by_costs(
-    alloc: Global,
-    set: &DeclSet,
-    root: &Name,
-    least: &Least,
-) -> Result<Answer, NoMemory>
+fn by_costs(alloc: Global, set: &DeclSet, root: &Name, least: &Least) -> Result<Answer, NoMemory>
     requires exact { IsExact set.now least.now }
     requires cap { least.now.cap ≤ 100000 }
     ensures answer { IfOk result (λ a. spec.by_size set.now least.now root.now (m_of set.now least.now root.now) a.status a.bytes.items) }

@@ -29,11 +29,7 @@ fn put_difference(alloc: Global, out: &mut Vec<u8>, broken: &BrokenDecl) -> Resu
     Ok(())
 }
 
-fn put_differences(
-    alloc: Global,
-    out: &mut Vec<u8>,
-    differs: &[BrokenDecl],
-) -> Result<(), NoMemory>
+fn put_differences(alloc: Global, out: &mut Vec<u8>, differs: &[BrokenDecl]) -> Result<(), NoMemory>
     ensures { OnOk result (out.new.items ≡ out.old.items ++ flat_map spec.differs_line differs.now) }
 {
     for broken in differs {

@@ -104,7 +104,9 @@ fn broken_words(alloc: Global, first: &DeclSet, broken: &Broken) -> Result<Vec<u
     let step = step_word(alloc, first, broken)?;
     let left = cost_word(alloc, broken.left)?;
     let right = cost_word(alloc, broken.right)?;
-    let line = format!(in alloc; "not certified {kind} {element}{state}{other}{step} {left} {right}\n")?;
+    let line = format!(in alloc;
+        "not certified {kind} {element}{state}{other}{step} {left} {right}\n"
+    )?;
     Ok(line.into_bytes())
 }
 
