@@ -1,5 +1,5 @@
 -- What words ask for.
-use Rattle.std.proofs.Common.{◌≡◌, ◌∙◌, ◌==◌, ◌&&◌, ℕ, ◌<◌, true, List, [], get_or, Some, None, Ok, Err, IfOk, IfSome, sym, subst, length, bytes_eq, codes}
+use Rattle.std.proofs.Common.{◌≡◌, ◌∙◌, ◌==◌, ◌&&◌, ℕ, ◌<◌, true, List, [], get_or, Some, None, Ok, Err, IfOk, IfSome, ap, refl, sym, subst, length, bytes_eq, codes}
 use Rattle.std.specs.Prelude.{Option, Result, is_some}
 use Rattle.std.proofs.lemmas.List.{get_or_default}
 use Rattle.std.proofs.lemmas.Bool.{and_parts, eqb-true}
@@ -17,7 +17,7 @@ use Rattle.tagset_tool.specs.declared.answer.Stop.{Stop}
 use Rattle.tagset_tool.specs.declared.answer.Stop.TheVariants as stop
 use Rattle.tagset_tool.specs.Outcomes.{Outcome, after}
 use Rattle.tagset_tool.specs.Runs.{StopsAs}
-use Rattle.tagset_tool.specs.Words.{SetWords, word, set_by, cap_in, is_compare, is_fill, is_least, is_report, is_validate, is_verify}
+use Rattle.tagset_tool.specs.Words.{SetWords, word, both_by, set_by, cap_in, is_compare, is_fill, is_least, is_report, is_validate, is_verify}
 
 -- what a place of the words has
 pub word_at : (words : List (List ℕ)) (i : ℕ) (x : List ℕ) → i < length words → x ≡ get_or words i x → x ≡ word words i
@@ -109,19 +109,34 @@ told_read (Some files) now catalog entry named result same named_is reads =
     let here : Reads (set_from (record { files = files; catalog = named }) entry) result = subst (λ o. IfSome o (λ files. Reads (set_from (record { files = files; catalog = named }) entry) result)) same reads in
     subst (λ c. Reads (c >>= λ it. set_from (record { files = files; catalog = it }) entry) result) (sym named_is) here
 
--- what is answered over two sets that were read and a third thing, and where it is not read
-pub told_third : {X Y Z : Type 0} → (holds : Option Files) (read : Files → Result X Fault) (other : Files → Result Y Fault) (third : Files → Result Z Fault) (next : X → Y → Z → Outcome) (x : X) (y : Y) (z : Z) (status : ℕ) (bytes : List ℕ)
-    → IfSome holds (λ files. Reads (read files) (Ok x)) → IfSome holds (λ files. Reads (other files) (Ok y)) → IfSome holds (λ files. Reads (third files) (Ok z)) → next x y z status bytes
-    → IfSome holds (λ files. after (read files) (λ x. after (other files) (λ y. after (third files) (next x y))) status bytes)
-told_third None read other third next x y z status bytes first second last over = tt
-told_third (Some files) read other third next x y z status bytes first second last over =
-    subst (λ r. after r (λ x. after (other files) (λ y. after (third files) (next x y))) status bytes) (sym first)
-    (subst (λ r. after r (λ y. after (third files) (next x y)) status bytes) (sym second) (subst (λ r. after r (next x y) status bytes) (sym last) over))
+-- what both readings give
+abbrev pub FollowsOnRead : Declarations → Result Declarations ReadFault → Result (Declarations × Declarations) ReadFault → Type 0
+FollowsOnRead first (Ok second) both = both ≡ Ok (first, second)
+FollowsOnRead first (Err fault) both = both ≡ Err fault
 
-pub told_stopped_third : {X Y Z : Type 0} → (holds : Option Files) (read : Files → Result X Fault) (other : Files → Result Y Fault) (third : Files → Result Z Fault) (next : X → Y → Z → Outcome) (x : X) (y : Y) (fault : ReadFault) (result : Result Answer Stop)
-    → IfSome holds (λ files. Reads (read files) (Ok x)) → IfSome holds (λ files. Reads (other files) (Ok y)) → IfSome holds (λ files. Reads (third files) (Err fault)) → StopsAs fault result
-    → IfSome holds (λ files. IfOk result (λ a. after (read files) (λ x. after (other files) (λ y. after (third files) (next x y))) a.status a.bytes.items))
-told_stopped_third None read other third next x y fault result first second last stops = tt
-told_stopped_third (Some files) read other third next x y fault result first second last stops =
-    subst (λ r. IfOk result (λ a. after r (λ x. after (other files) (λ y. after (third files) (next x y))) a.status a.bytes.items)) (sym first)
-    (subst (λ r. IfOk result (λ a. after r (λ y. after (third files) (next x y)) a.status a.bytes.items)) (sym second) (stopped_by (third files) (next x y) fault result last stops))
+paired : (first : Declarations) (result : Result Declarations ReadFault) (both : Result (Declarations × Declarations) ReadFault) (said : Result Declarations Fault) → Reads said result → FollowsOnRead first result both
+    → Reads (said >>= λ second. Ok (first, second)) both
+paired first (Ok second) both said reads follows = subst (Reads (said >>= λ second. Ok (first, second))) (sym follows) (ap (λ (r : Result Declarations Fault). r >>= λ second. Ok (first, second)) reads)
+paired first (Err (reading.Refused refusal)) both said reads follows = subst (Reads (said >>= λ second. Ok (first, second))) (sym follows) (ap (λ (r : Result Declarations Fault). r >>= λ second. Ok (first, second)) reads)
+paired first (Err reading.LoadFailed) both said reads follows = subst (Reads (said >>= λ second. Ok (first, second))) (sym follows) reads
+paired first (Err reading.NoMemory) both said reads follows = subst (Reads (said >>= λ second. Ok (first, second))) (sym follows) reads
+
+-- two sets that were read, and one that was not
+pub told_sets : (holds now : Option Files) (one other : SetWords) (first : Declarations) (result : Result Declarations ReadFault) (both : Result (Declarations × Declarations) ReadFault) → now ≡ holds
+    → IfSome holds (λ files. Reads (set_by files one) (Ok first)) → IfSome now (λ files. Reads (set_by files other) result) → FollowsOnRead first result both → IfSome holds (λ files. Reads (both_by files one other) both)
+told_sets None now one other first result both same read reads follows = tt
+told_sets (Some files) now one other first result both same read reads follows =
+    let here : Reads (set_by files other) result = subst (λ o. IfSome o (λ files. Reads (set_by files other) result)) same reads in
+    subst (λ r. Reads (r >>= λ a. set_by files other >>= λ b. Ok (a, b)) both) (sym read) (paired first result both (set_by files other) here follows)
+
+pub told_unread : (holds : Option Files) (one other : SetWords) (fault : ReadFault) → IfSome holds (λ files. Reads {T = Declarations} (set_by files one) (Err fault)) → IfSome holds (λ files. Reads {T = Declarations × Declarations} (both_by files one other) (Err fault))
+told_unread None one other fault reads = tt
+told_unread (Some files) one other (reading.Refused refusal) reads = subst (λ r. Reads {T = Declarations × Declarations} (r >>= λ a. set_by files other >>= λ b. Ok (a, b)) (Err (reading.Refused refusal))) (sym reads) refl
+told_unread (Some files) one other reading.LoadFailed reads = reads
+told_unread (Some files) one other reading.NoMemory reads = reads
+
+-- what is answered over one thing that was read
+pub told_one : {X : Type 0} → (holds : Option Files) (read : Files → Result X Fault) (next : X → Outcome) (x : X) (status : ℕ) (bytes : List ℕ) → IfSome holds (λ files. Reads (read files) (Ok x)) → next x status bytes
+    → IfSome holds (λ files. after (read files) next status bytes)
+told_one None read next x status bytes reads over = tt
+told_one (Some files) read next x status bytes reads over = subst (λ r. after r next status bytes) (sym reads) over

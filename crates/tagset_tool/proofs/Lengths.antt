@@ -1,17 +1,18 @@
 -- Outputs that are too long, and least articles.
-use Rattle.std.proofs.Common.{◌≡◌, ◌∙◌, ◌<◌, ◌≤◌, ◌+◌, ℕ, true, List, [], ◌∷◌, ◌++◌, length, nat_lt, Ok, Err, IfOk, subst, sym, arith, length-append}
-use Rattle.std.specs.Prelude.{Result, codes, encode_utf8_all}
+use Rattle.std.proofs.Common.{◌≡◌, ◌∙◌, ◌<◌, ◌≤◌, ◌+◌, ℕ, true, List, [], ◌∷◌, ◌++◌, length, nat_lt, None, Ok, Err, IfOk, subst, sym, arith, length-append}
+use Rattle.std.specs.Prelude.{Option, Result, codes, encode_utf8_all}
 use Rattle.std.specs.Fmt.{decimal}
 use Rattle.std.proofs.lemmas.Bool.{lt-ltb}
 use Rattle.document_trees.specs.Trees.{Node}
-use Rattle.decl_set.specs.Declarations.{Declarations}
+use Rattle.content_models.specs.declared.content.Content.{Content}
+use Rattle.decl_set.specs.Declarations.{Declarations, content_in}
 use Rattle.tree_costs.specs.declared.least.Least.{Least}
 use Rattle.article_tree.specs.Writing.{write}
 use Rattle.separating_article.specs.Articles.{IsLeastOf, text_size}
 use Rattle.jats_chars.specs.declared.NoMemory.{NoMemory as OutOfMemory}
 use Rattle.tagset_tool.specs.Outcomes.{answering, fitting, fitting_by, most_written, refusing}
-use Rattle.tagset_tool.specs.Refusals.{output_over}
-use Rattle.tagset_tool.specs.commands.Least.{least_text, sized}
+use Rattle.tagset_tool.specs.Refusals.{output_over, root_undeclared}
+use Rattle.tagset_tool.specs.commands.Least.{least_from, least_in, least_text, sized}
 use Rattle.tagset_tool.specs.declared.answer.Answer.{Answer}
 
 -- an output is longer than the article in it
@@ -38,3 +39,9 @@ pub article_fits : (set : Declarations) (least : Least) (root : List ℕ) (n : �
     → IfOk result (λ a. fitting 0 bytes a.status a.bytes.items) → IfOk result (λ a. sized set least root n true a.status a.bytes.items)
 article_fits set least root n node bytes (Err e) is said told = tt
 article_fits set least root n node bytes (Ok a) is said told = (node, is, subst (λ (text : List ℕ). fitting 0 text a.status a.bytes.items) said told)
+
+-- a root that is not declared
+pub least_undeclared : (set : Declarations) (root : List ℕ) (cap : ℕ) (result : Result Answer OutOfMemory) → content_in set root ≡ None → IfOk result (λ a. refusing (root_undeclared root) a.status a.bytes.items)
+    → IfOk result (λ a. least_in root cap set a.status a.bytes.items)
+least_undeclared set root cap (Err e) none told = tt
+least_undeclared set root cap (Ok a) none told = subst (λ (o : Option Content). least_from set root cap o a.status a.bytes.items) (sym none) told

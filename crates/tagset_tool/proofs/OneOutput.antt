@@ -42,7 +42,7 @@ use Rattle.tagset_tool.specs.Counts.{count_lines}
 use Rattle.tagset_tool.specs.Outcomes.{IsUnique, Outcome, after, answering, fitting, refusing}
 use Rattle.tagset_tool.specs.Output.{IsOutput, outcome_of, usage_line}
 use Rattle.tagset_tool.specs.Refusals.{cert_malformed, pairs_over, root_undeclared}
-use Rattle.tagset_tool.specs.Words.{Asked, SetWords, check, flatten, validate, fill, compare, report, least, verify, asked, set_by}
+use Rattle.tagset_tool.specs.Words.{Asked, SetWords, check, flatten, validate, fill, compare, report, least, verify, asked, both_by, set_by}
 use Rattle.article_files.specs.Bytes.{article_in}
 use Rattle.article_validator.specs.Faults.{fault_list}
 use Rattle.article_validator.specs.declared.fault.Invalid.{Invalid}
@@ -179,21 +179,19 @@ verified_unique files name first second =
     after_unique (file_text most_certified files name) (λ text. certified first second name (read_lines first second (lines_of text))) (λ text. certified_unique first second name (read_lines first second (lines_of text)))
 
 verifies_unique : (files : Files) (name : List ℕ) (one other : SetWords) → IsUnique (verifies files name one other)
-verifies_unique files name one other =
-    after_unique (set_by files one) (λ first. after (set_by files other) (verifies_by files name first))
-    (λ first. after_unique (set_by files other) (verifies_by files name first) (verified_unique files name first))
+verifies_unique files name one other = after_unique (both_by files one other) (λ sets. verifies_by files name sets.0 sets.1) (λ sets. verified_unique files name sets.0 sets.1)
 
 -- ---- least articles
 
-sized_unique : (set : Declarations) (least : Least) (root : List ℕ) (n : ℕ) (within : Bool) → IsUnique (sized set least root n within)
-sized_unique set least root n false s t b c one other = answering_unique 0 (above_line least.cap) s t b c one other
-sized_unique set least root n true s t b c one other =
-    let same = one_least_article set least root one.0 other.0 one.1 other.1 in
+sized_unique : (set : Declarations) (table : Least) (root : List ℕ) (n : ℕ) (within : Bool) → IsUnique (sized set table root n within)
+sized_unique set table root n false s t b c one other = answering_unique 0 (above_line table.cap) s t b c one other
+sized_unique set table root n true s t b c one other =
+    let same = one_least_article set table root one.0 other.0 one.1 other.1 in
     fitting_unique 0 (least_text n other.0) s t b c (subst (λ (node : Node). fitting 0 (least_text n node) s b) same one.2) other.2
 
-by_size_unique : (set : Declarations) (least : Least) (root : List ℕ) (c : Cost) → IsUnique (by_size set least root c)
-by_size_unique set least root Inf s t b c one other = answering_unique 1 none_line s t b c one other
-by_size_unique set least root (Fin n) s t b c one other = sized_unique set least root n (nat_le n least.cap) s t b c one other
+by_size_unique : (set : Declarations) (table : Least) (root : List ℕ) (c : Cost) → IsUnique (by_size set table root c)
+by_size_unique set table root Inf s t b c one other = answering_unique 1 none_line s t b c one other
+by_size_unique set table root (Fin n) s t b c one other = sized_unique set table root n (nat_le n table.cap) s t b c one other
 
 by_costs_unique : (set : Declarations) (root : List ℕ) (cap : ℕ) → KeepsAll set → IsUnique (by_costs set root cap)
 by_costs_unique set root cap kept s t b c one other =

@@ -1,6 +1,7 @@
 -- What words ask for.
-use Rattle.std.specs.Prelude.{ℕ, ◌+◌, Bool, ◌==◌, ◌&&◌, List, [], length, Option, Some, None, Result, bytes_eq, codes, is_some, nat_le, option_and_then, slice_index_or, if◌then◌else◌}
+use Rattle.std.specs.Prelude.{ℕ, ◌+◌, Bool, ◌==◌, ◌&&◌, List, [], length, Option, Some, None, Result, Ok, bytes_eq, codes, is_some, nat_le, option_and_then, slice_index_or, if◌then◌else◌}
 use Rattle.std.specs.Option.{option_map_or}
+use Rattle.dtd_scanner.specs.Walk.{◌>>=◌}
 use Rattle.jats_fault.specs.declared.fault.Fault.{Fault}
 use Rattle.bound_checker.specs.Spelled.{short_number_in}
 use Rattle.decl_set.specs.Declarations.{Declarations}
@@ -88,3 +89,7 @@ asked words =
 -- the set that words name, or the first refusal
 abbrev pub set_by : Files → SetWords → Result Declarations Fault
 set_by files words = set_of files words.catalog words.entry
+
+-- two sets, the one after the other
+abbrev pub both_by : Files → SetWords → SetWords → Result (Declarations × Declarations) Fault
+both_by files one other = set_by files one >>= λ first. set_by files other >>= λ second. Ok (first, second)

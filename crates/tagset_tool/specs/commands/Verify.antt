@@ -16,7 +16,7 @@ use Rattle.bound_checker.specs.declared.tables.Tables.{Tables}
 use Rattle.module_reader.specs.Sources.{Files, file_text}
 use Rattle.tagset_tool.specs.Outcomes.{Outcome, after, answering, refusing}
 use Rattle.tagset_tool.specs.Refusals.{cert_malformed}
-use Rattle.tagset_tool.specs.Words.{SetWords, set_by}
+use Rattle.tagset_tool.specs.Words.{SetWords, both_by}
 
 -- what v of the root says of all documents that separate
 abbrev pub claim : Cost → List ℕ
@@ -70,4 +70,4 @@ abbrev pub verifies_by : Files → List ℕ → Declarations → Declarations �
 verifies_by files name first second = after (file_text most_certified files name) (λ text. certified first second name (read_lines first second (lines_of text)))
 
 abbrev pub verifies : Files → List ℕ → SetWords → SetWords → Outcome
-verifies files name one other = after (set_by files one) (λ first. after (set_by files other) (verifies_by files name first))
+verifies files name one other = after (both_by files one other) (λ sets. verifies_by files name sets.0 sets.1)

@@ -13,7 +13,7 @@ ghost use Rattle.tagset_tool.specs.commands.Verify as spec;
 use crate::answer::{Answer, Stop, refused, stop_of};
 use crate::refusals::cert_malformed;
 use crate::shown::shown;
-use crate::words::read_words;
+use crate::words::read_both;
 use bound_checker::{Broken, CertFault, Cost, Tables, check_tables, read_cert};
 use decl_set::DeclSet;
 use jats_chars::{NoMemory, Text};
@@ -189,12 +189,8 @@ pub fn verify_words<S: Store>(alloc: Global, words: &[Text], store: &mut S) -> R
     ensures status { IfOk result (λ a. a.status ≤ 2) }
     ensures told { IfSome (S.holds store.old) (λ files. IfOk result (λ a. spec.verifies files (asked.word words.now 1) (asked.set_words words.now 2) (asked.set_words words.now 4) a.status a.bytes.items)) }
 {
-    let first = match read_words(alloc, store, words, 2) {
-        Ok(set) => set,
-        Err(fault) => return stop_of(alloc, &fault),
-    };
-    let second = match read_words(alloc, store, words, 4) {
-        Ok(set) => set,
+    let (first, second) = match read_both(alloc, store, words, 2, 4) {
+        Ok(sets) => sets,
         Err(fault) => return stop_of(alloc, &fault),
     };
     let text = match load_text(alloc, store, &words[1], MOST_CERTIFIED) {
