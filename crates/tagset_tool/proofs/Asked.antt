@@ -1,5 +1,5 @@
 -- What words ask for.
-use Rattle.std.proofs.Common.{◌≡◌, ◌∙◌, ◌==◌, ◌&&◌, ℕ, ◌<◌, true, List, [], get_or, Some, None, Ok, Err, IfOk, IfSome, ap, refl, sym, subst, length, bytes_eq, codes}
+use Rattle.std.proofs.Common.{◌≡◌, ◌∙◌, ◌==◌, ◌&&◌, ℕ, ◌<◌, true, List, [], get_or, Some, None, Ok, Err, IfOk, IfSome, sym, subst, length, bytes_eq, codes}
 use Rattle.std.specs.Prelude.{Option, Result, is_some}
 use Rattle.std.proofs.lemmas.List.{get_or_default}
 use Rattle.std.proofs.lemmas.Bool.{and_parts, eqb-true}
@@ -17,7 +17,7 @@ use Rattle.tagset_tool.specs.declared.answer.Stop.{Stop}
 use Rattle.tagset_tool.specs.declared.answer.Stop.TheVariants as stop
 use Rattle.tagset_tool.specs.Outcomes.{Outcome, after}
 use Rattle.tagset_tool.specs.Runs.{StopsAs}
-use Rattle.tagset_tool.specs.Words.{SetWords, word, both_by, set_by, cap_in, is_compare, is_fill, is_least, is_report, is_validate, is_verify}
+use Rattle.tagset_tool.specs.Words.{SetWords, word, set_by, cap_in, is_compare, is_fill, is_least, is_report, is_validate}
 
 -- what a place of the words has
 pub word_at : (words : List (List ℕ)) (i : ℕ) (x : List ℕ) → i < length words → x ≡ get_or words i x → x ≡ word words i
@@ -30,10 +30,6 @@ seven_words words t = eqb-true (length words) 7 (and_parts (length words == 7) (
 -- words of a report are six
 pub six_words : (words : List (List ℕ)) → is_report words ≡ true → length words ≡ 6
 six_words words t = eqb-true (length words) 6 (and_parts (length words == 6) (bytes_eq (word words 0) (codes "report")) t).0
-
--- and so are those of `verify`
-pub six_verified : (words : List (List ℕ)) → is_verify words ≡ true → length words ≡ 6
-six_verified words t = eqb-true (length words) 6 (and_parts (length words == 6) (bytes_eq (word words 0) (codes "verify")) t).0
 
 -- words for a least article are five
 pub five_least : (words : List (List ℕ)) → is_least words ≡ true → length words ≡ 5
@@ -108,32 +104,6 @@ told_read None now catalog entry named result same named_is reads = tt
 told_read (Some files) now catalog entry named result same named_is reads =
     let here : Reads (set_from (record { files = files; catalog = named }) entry) result = subst (λ o. IfSome o (λ files. Reads (set_from (record { files = files; catalog = named }) entry) result)) same reads in
     subst (λ c. Reads (c >>= λ it. set_from (record { files = files; catalog = it }) entry) result) (sym named_is) here
-
--- what both readings give
-abbrev pub FollowsOnRead : Declarations → Result Declarations ReadFault → Result (Declarations × Declarations) ReadFault → Type 0
-FollowsOnRead first (Ok second) both = both ≡ Ok (first, second)
-FollowsOnRead first (Err fault) both = both ≡ Err fault
-
-paired : (first : Declarations) (result : Result Declarations ReadFault) (both : Result (Declarations × Declarations) ReadFault) (said : Result Declarations Fault) → Reads said result → FollowsOnRead first result both
-    → Reads (said >>= λ second. Ok (first, second)) both
-paired first (Ok second) both said reads follows = subst (Reads (said >>= λ second. Ok (first, second))) (sym follows) (ap (λ (r : Result Declarations Fault). r >>= λ second. Ok (first, second)) reads)
-paired first (Err (reading.Refused refusal)) both said reads follows = subst (Reads (said >>= λ second. Ok (first, second))) (sym follows) (ap (λ (r : Result Declarations Fault). r >>= λ second. Ok (first, second)) reads)
-paired first (Err reading.LoadFailed) both said reads follows = subst (Reads (said >>= λ second. Ok (first, second))) (sym follows) reads
-paired first (Err reading.NoMemory) both said reads follows = subst (Reads (said >>= λ second. Ok (first, second))) (sym follows) reads
-
--- two sets that were read, and one that was not
-pub told_sets : (holds now : Option Files) (one other : SetWords) (first : Declarations) (result : Result Declarations ReadFault) (both : Result (Declarations × Declarations) ReadFault) → now ≡ holds
-    → IfSome holds (λ files. Reads (set_by files one) (Ok first)) → IfSome now (λ files. Reads (set_by files other) result) → FollowsOnRead first result both → IfSome holds (λ files. Reads (both_by files one other) both)
-told_sets None now one other first result both same read reads follows = tt
-told_sets (Some files) now one other first result both same read reads follows =
-    let here : Reads (set_by files other) result = subst (λ o. IfSome o (λ files. Reads (set_by files other) result)) same reads in
-    subst (λ r. Reads (r >>= λ a. set_by files other >>= λ b. Ok (a, b)) both) (sym read) (paired first result both (set_by files other) here follows)
-
-pub told_unread : (holds : Option Files) (one other : SetWords) (fault : ReadFault) → IfSome holds (λ files. Reads {T = Declarations} (set_by files one) (Err fault)) → IfSome holds (λ files. Reads {T = Declarations × Declarations} (both_by files one other) (Err fault))
-told_unread None one other fault reads = tt
-told_unread (Some files) one other (reading.Refused refusal) reads = subst (λ r. Reads {T = Declarations × Declarations} (r >>= λ a. set_by files other >>= λ b. Ok (a, b)) (Err (reading.Refused refusal))) (sym reads) refl
-told_unread (Some files) one other reading.LoadFailed reads = reads
-told_unread (Some files) one other reading.NoMemory reads = reads
 
 -- what is answered over one thing that was read
 pub told_one : {X : Type 0} → (holds : Option Files) (read : Files → Result X Fault) (next : X → Outcome) (x : X) (status : ℕ) (bytes : List ℕ) → IfSome holds (λ files. Reads (read files) (Ok x)) → next x status bytes

@@ -5,4 +5,3 @@ pub mod Flatten
 pub mod Least
 pub mod Report
 pub mod Validate
-pub mod Verify

@@ -7,4 +7,3 @@ pub mod flatten;
 pub mod least;
 pub mod report;
 pub mod validate;
-pub mod verify;
