@@ -1,0 +1,17 @@
+pub mod Positions
+pub mod Halves
+pub mod Outside
+pub mod Kinded
+pub mod Lists
+pub mod Bounds
+pub mod Picked
+pub mod Knowing
+pub mod Planned
+pub mod Undeclared
+pub mod Accepting
+pub mod Moving
+pub mod Returning
+pub mod Carrying
+pub mod Numbering
+pub mod Standing
+pub mod Carried

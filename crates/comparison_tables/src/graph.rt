@@ -1,0 +1,214 @@
+//! The graph of a comparison.
+
+ghost use Rattle.std.specs.Prelude.{◌≡◌, ◌≤◌, ◌<◌, ◌+◌, ℕ, slice_get, length, IsTrue, ◌↔◌};
+ghost use Rattle.tree_costs.specs.Costs.{sum as cost_sum};
+ghost use Rattle.least_trees.specs.Rules.{IsLess};
+ghost use Rattle.comparison_tables.specs.Plans.{plan_of, own_states, own_accepts, own_steps, states_of_copy, copy_accepts_at, steps_of_copy};
+ghost use Rattle.comparison_tables.specs.Sides.{AreSides, known_at};
+ghost use Rattle.comparison_tables.proofs.Planned.{is_plan};
+
+use crate::accepting::accepts;
+use crate::held::{Held, element_at};
+use crate::sides::{Side, Sides};
+use crate::steps::Step;
+use decl_set::DeclSet;
+use least_trees::StepGraph;
+use tree_costs::{Cost, at_most, sum};
+
+/// The graph of a comparison: the elements of the first set in order of declaration, with the states and steps of their
+/// contents, then their copies, whose trees separate. Each weighs 1.
+#[derive(Drop)]
+pub(crate) struct ComparisonGraph<'a> {
+    first: &'a DeclSet,
+    second: &'a DeclSet,
+    sides: &'a Sides,
+    cap: u32,
+    looks: u64,
+    sums: u64,
+    ghost small: { cap ≤ 100000 },
+    ghost sided: { AreSides first.now second.now sides.now },
+}
+
+fn own_states_at(first: &DeclSet, place: usize) -> u32
+    ensures { result ≡ own_states (slice_get first.now.elements place) }
+{
+    match element_at(first, place) {
+        None => 0,
+        Some((_, automaton)) => automaton.states(),
+    }
+}
+
+fn own_accepts_at(first: &DeclSet, place: usize, state: u32) -> bool
+    ensures { result ≡ own_accepts (slice_get first.now.elements place) state }
+{
+    match element_at(first, place) {
+        None => false,
+        Some((_, automaton)) => accepts(automaton, state),
+    }
+}
+
+fn own_step_at(first: &DeclSet, place: usize, state: u32, k: usize) -> Option<Step>
+    ensures { result ≡ slice_get (own_steps first.now (slice_get first.now.elements place) state) k }
+{
+    first.child_at(place, state, k)
+}
+
+fn copy_states_at(first: &DeclSet, second: &DeclSet, sides: &Sides, place: usize) -> u32
+    requires { AreSides first.now second.now sides.now }
+    ensures { result ≡ states_of_copy (known_at first.now second.now sides.now place) }
+{
+    match element_at(first, place) {
+        None => 0,
+        Some((_, automaton)) => match sides.get(place) {
+            None => 0,
+            Some(side) => 1 + 2 * automaton.states() + side.pairs.len() as u32,
+        },
+    }
+}
+
+fn copy_accepts_of(
+    first: &DeclSet,
+    second: &DeclSet,
+    sides: &Sides,
+    place: usize,
+    state: u32,
+) -> bool
+    requires { AreSides first.now second.now sides.now }
+    ensures { result ≡ copy_accepts_at (known_at first.now second.now sides.now place) state }
+{
+    match element_at(first, place) {
+        None => false,
+        Some((name, automaton)) => match sides.get(place) {
+            None => false,
+            Some(side) => Held {
+                first,
+                second,
+                place,
+                name,
+                automaton,
+                side,
+            }
+            .accepts(state),
+        },
+    }
+}
+
+fn copy_step_at(
+    first: &DeclSet,
+    second: &DeclSet,
+    sides: &Sides,
+    place: usize,
+    state: u32,
+    k: usize,
+) -> Option<Step>
+    requires { AreSides first.now second.now sides.now }
+    ensures { result ≡ slice_get (steps_of_copy first.now (known_at first.now second.now sides.now place) state) k }
+{
+    let _ = first.count();
+    let _ = second.count();
+    match element_at(first, place) {
+        None => None,
+        Some((name, automaton)) => match sides.get(place) {
+            None => None,
+            Some(side) => Held {
+                first,
+                second,
+                place,
+                name,
+                automaton,
+                side,
+            }
+            .step(state, k),
+        },
+    }
+}
+
+impl<'a> ComparisonGraph<'a> {
+    /// The graph of a comparison. It takes no memory; nothing was looked at or added yet.
+    pub(crate) fn new(
+        first: &'a DeclSet,
+        second: &'a DeclSet,
+        sides: &'a Sides,
+        cap: u32,
+    ) -> ComparisonGraph<'a>
+        requires small { cap ≤ 100000 }
+        requires sides { AreSides first.now second.now sides.now }
+        ensures plan { ⟦<ComparisonGraph<'a> as StepGraph>⟧.plan result ≡ plan_of first.now second.now sides.now cap }
+        ensures looks { ⟦<ComparisonGraph<'a> as StepGraph>⟧.looks result ≡ 0 }
+        ensures sums { ⟦<ComparisonGraph<'a> as StepGraph>⟧.sums result ≡ 0 }
+    {
+        ComparisonGraph {
+            first,
+            second,
+            sides,
+            cap,
+            looks: 0,
+            sums: 0,
+        }
+    }
+}
+
+impl<'a> StepGraph for ComparisonGraph<'a> {
+    type Value = Cost;
+
+    ghost plan = { λ g. plan_of g.first.now g.second.now g.sides.now g.cap };
+
+    ghost looks = { λ g. g.looks };
+
+    ghost sums = { λ g. g.sums };
+
+    ghost formed = { λ g. is_plan g.first.now g.second.now g.sides.now g.cap g.small g.sided };
+
+    fn count(&self) -> usize {
+        2 * self.first.count()
+    }
+
+    fn states(&self, e: usize) -> u32 {
+        let own = self.first.count();
+        if e < own {
+            own_states_at(self.first, e)
+        } else {
+            copy_states_at(self.first, self.second, self.sides, e - own)
+        }
+    }
+
+    fn accepts(&self, e: usize, state: u32) -> bool {
+        let own = self.first.count();
+        if e < own {
+            own_accepts_at(self.first, e, state)
+        } else {
+            copy_accepts_of(self.first, self.second, self.sides, e - own, state)
+        }
+    }
+
+    fn look(&mut self, e: usize, state: u32, k: usize) -> Option<Step> {
+        self.looks += 1;
+        let own = self.first.count();
+        if e < own {
+            own_step_at(self.first, e, state, k)
+        } else {
+            copy_step_at(self.first, self.second, self.sides, e - own, state, k)
+        }
+    }
+
+    fn weight(&self, _e: usize) -> Cost {
+        Cost::Fin(1)
+    }
+
+    fn zero(&self) -> Cost {
+        Cost::Fin(0)
+    }
+
+    fn inf(&self) -> Cost {
+        Cost::Inf
+    }
+
+    fn sum(&mut self, left: Cost, right: Cost) -> Cost {
+        self.sums += 1;
+        sum(left, right, self.cap)
+    }
+
+    fn less(&self, left: Cost, right: Cost) -> bool {
+        !at_most(right, left)
+    }
+}
