@@ -60,16 +60,16 @@ module _ (first second : Declarations) (sides : List Side) where
     a = k.content
 
     -- what the state of a number stands for
-    abbrev at_state : ℕ → State
+    abbrev pub at_state : ℕ → State
     at_state t = meaning (states a) (kind_in k t)
 
-    go_state : (i : ℕ) → i < states a → at_state (go_number i) ≡ to.Go i
+    pub go_state : (i : ℕ) → i < states a → at_state (go_number i) ≡ to.Go i
     go_state i l = ap (meaning (states a)) (go_kind (states a) k.pairs i l)
 
-    wrong_state : (i : ℕ) → i < states a → at_state (wrong_number (states a) i) ≡ to.Fs i
+    pub wrong_state : (i : ℕ) → i < states a → at_state (wrong_number (states a) i) ≡ to.Fs i
     wrong_state i l = ap (meaning (states a)) (wrong_kind (states a) k.pairs i l)
 
-    pair_state : (at i j : ℕ) → slice_get k.pairs at ≡ Some (i, j) → at_state (pair_number (states a) at) ≡ to.Gs i j
+    pub pair_state : (at i j : ℕ) → slice_get k.pairs at ≡ Some (i, j) → at_state (pair_number (states a) at) ≡ to.Gs i j
     pair_state at i j q = ap (meaning (states a)) (pair_kind_is (states a) k.pairs at i j q)
 
     -- a step to what a label and a number stand for

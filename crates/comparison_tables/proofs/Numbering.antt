@@ -64,7 +64,7 @@ numbers_state k (to.Gs i j) t h = by (pair_place k.pairs i j) refl h
         ap (λ z. meaning (states k.content) (kind_in k z)) (sym e) ∙ ap (meaning (states k.content)) (pair_kind_is (states k.content) k.pairs at i j (place_stands k.pairs i j at q))
 
 -- and has its number, or stands for nothing
-state_numbers : (first : Declarations) (k : Known) (t : ℕ) (kd : Kind) → ArePairsOf first k.content k.other k.pairs → IsNumber (states k.content) k.pairs t kd
+pub state_numbers : (first : Declarations) (k : Known) (t : ℕ) (kd : Kind) → ArePairsOf first k.content k.other k.pairs → IsNumber (states k.content) k.pairs t kd
     → (number_in k (meaning (states k.content) kd) ≡ Some t) ⊎ (kd ≡ kind.Beyond)
 state_numbers first k t kind.Start A h = inl (ap (λ z. Some z) (sym h))
 state_numbers first k t (kind.Go i) A h = inl (among_some (states k.content) i (go_number i) h.0 ∙ ap (λ z. Some z) (sym h.1))
@@ -74,7 +74,7 @@ state_numbers first k t (kind.Pair i j) A h = inl
     ∙ ap (λ z. Some z) (sym h.2))
 state_numbers first k t kind.Beyond A h = inr refl
 
-beyond_none : (k : Known) → number_in k (meaning (states k.content) kind.Beyond) ≡ None
+pub beyond_none : (k : Known) → number_in k (meaning (states k.content) kind.Beyond) ≡ None
 beyond_none k = ap (λ b. cond b (Some (wrong_number (states k.content) (states k.content))) None) (le-ltb (states k.content) (states k.content) (omega arith))
 
 -- ---- what has no number
@@ -205,7 +205,7 @@ module _ (first second : Declarations) (sides : List Side) (kf : IsKept first) (
       by {k} None q is h = absurd (let z : None ≡ Some (x, t) = sym (ap (option_map {U = ℕ × ℕ} (λ u. (n + y, u))) q) ∙ h in cc)
       by {k} (Some u) q is h =
           let z : Some (n + y, u) ≡ Some (x, t) = sym (ap (option_map {U = ℕ × ℕ} (λ u. (n + y, u))) q) ∙ h in
-          let both : (n + y, u) ≡ (x, t) = cc in
+          let both : ◌≡◌ {A = ℕ × ℕ} (n + y, u) (x, t) = cc in
           let place : n + y ≡ x = ap (λ z. z.0) both in
           let same : u ≡ t = ap (λ z. z.1) both in (
             ap (label first second sides) (sym place) ∙ label_copy first second sides e y p,
@@ -220,7 +220,7 @@ module _ (first second : Declarations) (sides : List Side) (kf : IsKept first) (
       by None q h = absurd (let z : None ≡ Some (x, t) = h in cc)
       by (Some y) q h =
           let z : Some (y, i) ≡ Some (x, t) = h in
-          let both : (y, i) ≡ (x, t) = cc in
+          let both : ◌≡◌ {A = ℕ × ℕ} (y, i) (x, t) = cc in
           let place : y ≡ x = ap (λ z. z.0) both in
           let same : i ≡ t = ap (λ z. z.1) both in (
             ap (label first second sides) (sym place) ∙ label_own first second sides e y q,

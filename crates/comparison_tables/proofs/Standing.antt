@@ -29,7 +29,7 @@ use Rattle.comparison_tables.specs.Sides.{AreSides, Known, known, known_at}
 use Rattle.comparison_tables.specs.Copies.{kind_in, copy_accepts, copy_steps}
 use Rattle.comparison_tables.specs.Plans.{own_accepts, own_steps, copy_accepts_at, steps_of_copy, is_own, known_of, numbers_of}
 use Rattle.comparison_tables.specs.Standing.{name_in, label, state, copy_state, meaning, number, state_number}
-use Rattle.comparison_tables.proofs.Accepting.{kind_ends}
+use Rattle.comparison_tables.proofs.Ending.{kind_ends}
 use Rattle.comparison_tables.proofs.Kinded.{numbered}
 use Rattle.comparison_tables.proofs.Knowing.{Knows, Stands, either_stands, is_known, none_known}
 use Rattle.comparison_tables.proofs.Moving.{label_own, label_copy, forth}

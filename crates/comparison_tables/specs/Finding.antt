@@ -1,10 +1,8 @@
 -- What is found of the elements of the first set beside those of the second, and where the listed pairs are too many.
-use Rattle.std.specs.Prelude.{◌≡◌, ◌≤◌, ◌<◌, ◌+◌, ℕ, List, length, Some, slice_get, take, Result, Ok, Err}
+use Rattle.std.specs.Prelude.{◌≡◌, ◌≤◌, ◌<◌, ◌+◌, ℕ, List, length, take, Result, Ok, Err}
 use Rattle.content_models.specs.declared.content.Content.{Content}
 use Rattle.content_models.specs.Model.{Chars}
 use Rattle.decl_set.specs.Declarations.{Declarations, content_in}
-use Rattle.model_inclusion.specs.declared.fault.PairFault.{PairFault}
-use Rattle.model_inclusion.specs.declared.fault.PairFault.TheVariants as pair
 use Rattle.tagset_compare.specs.Reported.{CountsPairs, SumsPairs, PassesAt}
 use Rattle.comparison_tables.specs.declared.fault.TablesFault.{TablesFault}
 use Rattle.comparison_tables.specs.declared.fault.TablesFault.TheVariants.{PairsOver, NoMemory}
@@ -16,10 +14,10 @@ abbrev pub PassesBy : Declarations → Declarations → Chars → Content → �
 PassesBy first second name a left = (n : ℕ) × CountsPairs first a (content_in second name) n × (left < n)
 
 -- the side of an element with at most so many pairs, or PairsOver exactly where they are more
-abbrev pub FindsSide : Declarations → Declarations → Chars → Content → ℕ → Result Side PairFault → Type 0
+abbrev pub FindsSide : Declarations → Declarations → Chars → Content → ℕ → Result Side TablesFault → Type 0
 FindsSide first second name a left (Ok side) = IsSide first second (name, a) side × (length side.pairs ≤ left)
-FindsSide first second name a left (Err pair.PairsOver) = PassesBy first second name a left
-FindsSide first second name a left (Err pair.NoMemory) = Unit {0}
+FindsSide first second name a left (Err (PairsOver other)) = (other ≡ name) × PassesBy first second name a left
+FindsSide first second name a left (Err NoMemory) = Unit {0}
 
 -- the sides of the first n elements, with so many pairs left of 2,000,000
 pub record AreFound (first second : Declarations) (n : ℕ) (sides : List Side) (left : ℕ) : Type 0 where

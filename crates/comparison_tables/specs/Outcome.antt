@@ -6,7 +6,7 @@ use Rattle.tagset_compare.specs.Reported.{SumsPairs, PassesAt}
 use Rattle.bound_checker.specs.declared.tables.PairRow.{PairRow}
 use Rattle.bound_checker.specs.declared.tables.Row.{Row}
 use Rattle.bound_checker.specs.declared.tables.Tables.{Tables}
-use Rattle.bound_checker.specs.Tabled.{Fits, costs_of}
+use Rattle.bound_checker.specs.Tabled.{Fits, FitRows, costs_of}
 use Rattle.exact_tables.specs.Families.{IsExact}
 use Rattle.comparison_tables.specs.declared.fault.TablesFault.{TablesFault}
 use Rattle.comparison_tables.specs.declared.fault.TablesFault.TheVariants.{PairsOver, NoMemory}
@@ -22,6 +22,12 @@ ListPairs first second [] [] = Unit {0}
 ListPairs first second [] (row ∷ rows) = ⊥
 ListPairs first second (e ∷ es) [] = ⊥
 ListPairs first second (e ∷ es) (row ∷ rows) = ArePairsOf first e.1 (content_in second e.0) (map states_of row.pairs) × ListPairs first second es rows
+
+-- rows of the exact costs, whatever the root is
+pub record HaveExactCosts (first second : Declarations) (cap : ℕ) (rows : List Row) : Type 0 where
+  pub fit : FitRows cap second first.elements rows
+  pub exact : (root : Chars) → IsExact first second cap (costs_of first (record { root = root; cap = cap; rows = rows }))
+  pub pairs : ListPairs first second first.elements rows
 
 -- tables of the exact costs, with a row for each element of the first and a cost for each state and each listed pair
 pub record AreExactTables (first second : Declarations) (root : Chars) (cap : ℕ) (tables : Tables) : Type 0 where

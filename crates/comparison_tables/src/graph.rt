@@ -1,15 +1,16 @@
 //! The graph of a comparison.
 
-ghost use Rattle.std.specs.Prelude.{◌≡◌, ◌≤◌, ◌<◌, ◌+◌, ℕ, slice_get, length, IsTrue, ◌↔◌};
+ghost use Rattle.std.specs.Prelude.{◌≡◌, ◌≤◌, ◌<◌, ◌+◌, ℕ, IsTrue, ◌↔◌};
 ghost use Rattle.tree_costs.specs.Costs.{sum as cost_sum};
 ghost use Rattle.least_trees.specs.Rules.{IsLess};
-ghost use Rattle.comparison_tables.specs.Plans.{plan_of, own_states, own_accepts, own_steps, states_of_copy, copy_accepts_at, steps_of_copy};
-ghost use Rattle.comparison_tables.specs.Sides.{AreSides, known_at};
+ghost use Rattle.comparison_tables.specs.Plans.{plan_of};
+ghost use Rattle.comparison_tables.specs.Sides.{AreSides};
 ghost use Rattle.comparison_tables.proofs.Planned.{is_plan};
 
-use crate::accepting::accepts;
-use crate::held::{Held, element_at};
-use crate::sides::{Side, Sides};
+use crate::copies::{
+    copy_accepts_of, copy_states_at, copy_step_at, own_accepts_at, own_states_at, own_step_at,
+};
+use crate::sides::Sides;
 use crate::steps::Step;
 use decl_set::DeclSet;
 use least_trees::StepGraph;
@@ -27,100 +28,6 @@ pub(crate) struct ComparisonGraph<'a> {
     sums: u64,
     ghost small: { cap ≤ 100000 },
     ghost sided: { AreSides first.now second.now sides.now },
-}
-
-fn own_states_at(first: &DeclSet, place: usize) -> u32
-    ensures { result ≡ own_states (slice_get first.now.elements place) }
-{
-    match element_at(first, place) {
-        None => 0,
-        Some((_, automaton)) => automaton.states(),
-    }
-}
-
-fn own_accepts_at(first: &DeclSet, place: usize, state: u32) -> bool
-    ensures { result ≡ own_accepts (slice_get first.now.elements place) state }
-{
-    match element_at(first, place) {
-        None => false,
-        Some((_, automaton)) => accepts(automaton, state),
-    }
-}
-
-fn own_step_at(first: &DeclSet, place: usize, state: u32, k: usize) -> Option<Step>
-    ensures { result ≡ slice_get (own_steps first.now (slice_get first.now.elements place) state) k }
-{
-    first.child_at(place, state, k)
-}
-
-fn copy_states_at(first: &DeclSet, second: &DeclSet, sides: &Sides, place: usize) -> u32
-    requires { AreSides first.now second.now sides.now }
-    ensures { result ≡ states_of_copy (known_at first.now second.now sides.now place) }
-{
-    match element_at(first, place) {
-        None => 0,
-        Some((_, automaton)) => match sides.get(place) {
-            None => 0,
-            Some(side) => 1 + 2 * automaton.states() + side.pairs.len() as u32,
-        },
-    }
-}
-
-fn copy_accepts_of(
-    first: &DeclSet,
-    second: &DeclSet,
-    sides: &Sides,
-    place: usize,
-    state: u32,
-) -> bool
-    requires { AreSides first.now second.now sides.now }
-    ensures { result ≡ copy_accepts_at (known_at first.now second.now sides.now place) state }
-{
-    match element_at(first, place) {
-        None => false,
-        Some((name, automaton)) => match sides.get(place) {
-            None => false,
-            Some(side) => Held {
-                first,
-                second,
-                place,
-                name,
-                automaton,
-                side,
-            }
-            .accepts(state),
-        },
-    }
-}
-
-fn copy_step_at(
-    first: &DeclSet,
-    second: &DeclSet,
-    sides: &Sides,
-    place: usize,
-    state: u32,
-    k: usize,
-) -> Option<Step>
-    requires { AreSides first.now second.now sides.now }
-    ensures { result ≡ slice_get (steps_of_copy first.now (known_at first.now second.now sides.now place) state) k }
-{
-    let _ = first.count();
-    let _ = second.count();
-    match element_at(first, place) {
-        None => None,
-        Some((name, automaton)) => match sides.get(place) {
-            None => None,
-            Some(side) => Held {
-                first,
-                second,
-                place,
-                name,
-                automaton,
-                side,
-            }
-            .step(state, k),
-        },
-    }
 }
 
 impl<'a> ComparisonGraph<'a> {

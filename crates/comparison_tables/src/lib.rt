@@ -8,11 +8,12 @@
 //! `sides` finds for each element whether it is odd and which pairs of states are listed. The states of a copy are numbered
 //! (`kinds`): the start, then one for P and one for F of each state, then the listed pairs in their order, each found by
 //! halves (`places`). `accepting` and `steps` say of a number whether it accepts and which steps it has, one at a time and
-//! looked up where they are asked for; `graph` hands both to the solver of `least_trees`, and `rows` reads the tables off
+//! looked up where they are asked for; `copies` says so of each element and copy by its place, `graph` hands it to the solver of `least_trees`, and `rows` reads the tables off
 //! its costs. `graph_law` says that the numbers stand for the graph of a comparison.
 #![tactic(auto)]
 
 mod accepting;
+mod copies;
 mod fault;
 mod graph;
 mod held;

@@ -1,7 +1,7 @@
 //! Rows of tables, read off settled costs.
 
-ghost use Rattle.std.specs.Prelude.{◌≡◌, ◌≤◌, ◌<◌, ◌+◌, IfOk, length, slice_index_or};
-ghost use Rattle.decl_set.specs.Asked.{IsKept};
+ghost use Rattle.std.specs.Prelude.{◌≡◌, ◌≤◌, ◌+◌, IfOk, length, slice_get};
+ghost use Rattle.comparison_tables.specs.Plans.{own_states};
 ghost use Rattle.comparison_tables.specs.Rows as spec;
 ghost use Rattle.comparison_tables.specs.Sides.{AreSides};
 

@@ -1,8 +1,6 @@
 //! The elements of the first set beside those of the second.
 
 ghost use Rattle.std.specs.Prelude.{◌≡◌, ◌≤◌, IfOk};
-ghost use Rattle.content_models.specs.declared.content.Content.{Content};
-ghost use Rattle.decl_set.specs.Asked.{IsKept};
 ghost use Rattle.model_inclusion.specs.Listed.{ListsPairs};
 ghost use Rattle.tagset_compare.specs.Live.{AreLive};
 ghost use Rattle.comparison_tables.specs.Finding.{FindsSide, FindsSides};
@@ -64,7 +62,7 @@ fn side_of(
     automaton: &Automaton,
     live: &LiveNames,
     left: u64,
-) -> Result<Side, PairFault>
+) -> Result<Side, TablesFault>
     requires live { AreLive first.now live.now }
     requires few { left ≤ 2000000 }
     ensures { FindsSide first.now second.now name.now automaton.now left result }
@@ -76,20 +74,11 @@ fn side_of(
             pairs: ListOf::new(alloc),
         }),
         Some(other) => match pairs_of(alloc, automaton, other, live, left) {
-            Err(fault) => Err(fault),
             Ok(pairs) => Ok(Side { odd, pairs }),
-        },
-    }
-}
-
-/// The fault of the element of this name.
-fn fault_at(alloc: Global, name: &Name, fault: PairFault) -> TablesFault
-{
-    match fault {
-        PairFault::NoMemory => TablesFault::NoMemory,
-        PairFault::PairsOver => match name.copy(alloc) {
-            Ok(name) => TablesFault::PairsOver(name),
-            Err(_) => TablesFault::NoMemory,
+            Err(fault) => match fault {
+                PairFault::PairsOver => Err(TablesFault::PairsOver(name.copy(alloc)?)),
+                PairFault::NoMemory => Err(TablesFault::NoMemory),
+            },
         },
     }
 }
@@ -106,16 +95,13 @@ pub(crate) fn sides_of(
 {
     let mut sides = Sides::new(alloc);
     let mut left = MOST_PAIRS;
-    for e in 0..first.count() {
-        match element_at(first, e) {
-            None => return Err(TablesFault::NoMemory),
-            Some((name, automaton)) => match side_of(alloc, first, second, name, automaton, live, left) {
-                Err(fault) => return Err(fault_at(alloc, name, fault)),
-                Ok(side) => {
-                    left -= side.pairs.len() as u64;
-                    sides.push(side)?;
-                }
-            },
+    while let Some((name, automaton)) = element_at(first, sides.len()) {
+        match side_of(alloc, first, second, name, automaton, live, left) {
+            Err(fault) => return Err(fault),
+            Ok(side) => {
+                left -= side.pairs.len() as u64;
+                sides.push(side)?;
+            }
         }
     }
     Ok(sides)

@@ -1,10 +1,10 @@
 //! The exact tables of a comparison.
 
-ghost use Rattle.std.specs.Prelude.{◌≡◌, ◌≤◌, is_some, IsTrue};
+ghost use Rattle.std.specs.Prelude.{◌≤◌, is_some, IfOk, IsTrue};
 ghost use Rattle.decl_set.specs.Declarations.{content_in};
-ghost use Rattle.tagset_compare.specs.Live.{AreLive};
 ghost use Rattle.comparison_tables.specs.Finding.{FindsSides};
-ghost use Rattle.comparison_tables.specs.Outcome.{Tabulates};
+ghost use Rattle.comparison_tables.specs.Sides.{AreSides};
+ghost use Rattle.comparison_tables.specs.Outcome.{HaveExactCosts, Tabulates};
 
 use crate::fault::TablesFault;
 use crate::graph::ComparisonGraph;
@@ -42,7 +42,7 @@ fn solved_rows(
 ) -> Result<Rows, NoMemory>
     requires cap { cap ≤ 100000 }
     requires sides { AreSides first.now second.now sides.now }
-    ensures { IfOk result (HasExactRows first.now second.now cap) }
+    ensures { IfOk result (HaveExactCosts first.now second.now cap) }
 {
     let mut graph = ComparisonGraph::new(first, second, sides, cap);
     let settled = least_counted(alloc, &mut graph)?;
