@@ -12,9 +12,11 @@ use Rattle.tagset_compare.specs.Live.{AreLive}
 use Rattle.tagset_compare.specs.Reported.{CountsPairs, SumsPairs, PassesAt}
 use Rattle.tagset_compare.proofs.Judging.{are_listed}
 use Rattle.comparison_tables.specs.declared.sides.Side.{Side}
-use Rattle.comparison_tables.specs.Finding.{PassesBy, AreFound, FindsAll}
-use Rattle.comparison_tables.specs.Sides.{ArePairsOf, IsSide, FitSides, AreSides}
-use Rattle.comparison_tables.proofs.Knowing.{as_many}
+use Rattle.comparison_tables.specs.declared.fault.TablesFault.{TablesFault}
+use Rattle.comparison_tables.specs.declared.fault.TablesFault.TheVariants as fault
+use Rattle.comparison_tables.specs.Finding.{PassesBy, FindsSide, FindsSides, AreFound, FindsAll}
+use Rattle.comparison_tables.specs.Sides.{ArePairsOf, IsSide, FitSides}
+
 
 -- ---- one element
 
@@ -35,15 +37,19 @@ module _ (first second : Declarations) (name : Chars) (a : Content) (left : ℕ)
 
 -- ---- one more element
 
-take_more : {A : Type 0} (xs : List A) (k : ℕ) (x : A) → slice_get xs k ≡ Some x → take (k + 1) xs ≡ take k xs ++ x ∷ []
+take_more : {A : Type 0} (xs : List A) (k : ℕ) (x : A) → slice_get xs k ≡ Some x → take (suc k) xs ≡ take k xs ++ x ∷ []
 take_more [] k x h = cc
 take_more (y ∷ ys) zero x h = let e : y ≡ x = cc in ap (λ z. z ∷ []) e
 take_more (y ∷ ys) (suc k) x h = ap (λ z. y ∷ z) (take_more ys k x h)
 
-split : {A : Type 0} (xs : List A) (k : ℕ) (x : A) → slice_get xs k ≡ Some x → xs ≡ take k xs ++ x ∷ drop (k + 1) xs
+split : {A : Type 0} (xs : List A) (k : ℕ) (x : A) → slice_get xs k ≡ Some x → xs ≡ take k xs ++ x ∷ drop (suc k) xs
 split [] k x h = cc
 split (y ∷ ys) zero x h = let e : y ≡ x = cc in ap (λ z. z ∷ ys) e
 split (y ∷ ys) (suc k) x h = ap (λ z. y ∷ z) (split ys k x h)
+
+pub one_longer : {A : Type 0} (xs : List A) (y : A) → length (xs ++ y ∷ []) ≡ suc (length xs)
+one_longer [] y = refl
+one_longer (x ∷ xs) y = ap suc (one_longer xs y)
 
 take_all : {A : Type 0} (xs : List A) (k : ℕ) → slice_get xs k ≡ None → take k xs ≡ xs
 take_all [] zero h = refl
@@ -68,7 +74,7 @@ module _ (first second : Declarations) where
   counted a None pairs h = ap length h
   counted a (Some b) pairs h = (pairs, h, refl)
 
-  pub none_yet : AreFound first second 0 [] 2000000
+  pub none_yet : AreFound first second [] 2000000
   none_yet = record { sides_are = by first.elements; sum = 0; sums = sums first.elements; rest = omega arith }
     where
       by : (es : List Element) → FitSides first second (take 0 es) []
@@ -79,10 +85,11 @@ module _ (first second : Declarations) where
       sums [] = refl
       sums (e ∷ es) = refl
 
-  pub one_more : (n left : ℕ) (sides : List Side) (e : Element) (side : Side) → AreFound first second n sides left → slice_get first.elements n ≡ Some e
-      → IsSide first second e side → length side.pairs ≤ left → AreFound first second (n + 1) (sides ++ side ∷ []) (left - length side.pairs)
-  one_more n left sides e side A h s l =
-      let t = sym (take_more first.elements n e h) in
+  pub one_more : (left : ℕ) (sides : List Side) (e : Element) (side : Side) → AreFound first second sides left → Some e ≡ slice_get first.elements (length sides)
+      → IsSide first second e side → length side.pairs ≤ left → AreFound first second (sides ++ side ∷ []) (left - length side.pairs)
+  one_more left sides e side A h s l =
+      let n = length sides in
+      let t = sym (ap (λ k. take k first.elements) (one_longer sides side) ∙ take_more first.elements n e (sym h)) in
       record {
         sides_are = subst (λ (es : List Element). FitSides first second es (sides ++ side ∷ [])) t (fit_more (take n first.elements) sides e side A.sides_are s);
         sum = A.sum + length side.pairs;
@@ -91,13 +98,13 @@ module _ (first second : Declarations) where
         rest = omega (arith, A.rest);
       }
 
-  pub passes : (n left : ℕ) (sides : List Side) (name : Chars) (a : Content) → AreFound first second n sides left → slice_get first.elements n ≡ Some (name, a)
+  pub passes : (left : ℕ) (sides : List Side) (name : Chars) (a : Content) → AreFound first second sides left → Some (name, a) ≡ slice_get first.elements (length sides)
       → PassesBy first second name a left → PassesAt first second name
-  passes n left sides name a A h p = record {
-    before = take n first.elements;
+  passes left sides name a A h p = record {
+    before = take (length sides) first.elements;
     declared = a;
-    after = drop (n + 1) first.elements;
-    place = split first.elements n (name, a) h;
+    after = drop (suc (length sides)) first.elements;
+    place = split first.elements (length sides) (name, a) (sym h);
     sum = A.sum;
     sums = A.sums;
     within = omega (arith, A.rest);
@@ -106,12 +113,18 @@ module _ (first second : Declarations) where
     over = omega (arith, A.rest, p.2);
   }
 
-  pub all_found : (n left : ℕ) (sides : List Side) → AreFound first second n sides left → slice_get first.elements n ≡ None → FindsAll first second sides
-  all_found n left sides A h =
-      let t = take_all first.elements n h in
+  pub all_found : (left : ℕ) (sides : List Side) → AreFound first second sides left → None ≡ slice_get first.elements (length sides) → FindsAll first second sides
+  all_found left sides A h =
+      let t = take_all first.elements (length sides) (sym h) in
       record {
         sides_are = subst (λ (es : List Element). FitSides first second es sides) t A.sides_are;
         sum = A.sum;
         sums = subst (λ (es : List Element). SumsPairs first second es A.sum) t A.sums;
         within = omega (arith, A.rest);
       }
+
+  -- what an element's fault says of all
+  pub fault_is : (left : ℕ) (sides : List Side) (name : Chars) (a : Content) (f : TablesFault) → AreFound first second sides left
+      → Some (name, a) ≡ slice_get first.elements (length sides) → FindsSide first second name a left (Err f) → FindsSides first second (Err f)
+  fault_is left sides name a (fault.PairsOver other) A h p = subst (λ (z : Chars). PassesAt first second z) (sym p.0) (passes left sides name a A h p.1)
+  fault_is left sides name a fault.NoMemory A h p = tt

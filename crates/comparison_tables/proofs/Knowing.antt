@@ -14,6 +14,7 @@ use Rattle.tree_costs.proofs.Places.{is_at}
 use Rattle.tree_costs.proofs.Steps.{got_member}
 use Rattle.tagset_compare.specs.Live.{IsListed, AreListed}
 use Rattle.comparison_tables.specs.declared.sides.Side.{Side}
+use Rattle.comparison_tables.specs.Shapes.{IsFine, AreFine}
 use Rattle.comparison_tables.specs.Sides.{ArePairsOf, IsSide, FitSides, AreSides, Known, known, known_by, known_at, pair_place}
 use Rattle.comparison_tables.proofs.Halves.{some_found, is_own}
 use Rattle.comparison_tables.proofs.Lists.{member_at}
@@ -100,3 +101,10 @@ module _ (first second : Declarations) (sides : List Side) (kept : IsKept first)
 
   pub stands_within : (x : ℕ) → Stands first second sides x → x < length first.elements
   stands_within x s = slice_get_within first.elements x s.element s.there
+
+-- the side of an element that is held
+pub fine_at : (es : List Element) (sides : List Side) (x : ℕ) (side : Side) → AreFine es sides → Some side ≡ slice_get sides x → IsFine side
+fine_at es [] x side f h = cc
+fine_at [] (s ∷ sides) x side f h = elim f [ ]
+fine_at (e ∷ es) (s ∷ sides) zero side f h = let same : side ≡ s = cc in subst IsFine (sym same) f.0
+fine_at (e ∷ es) (s ∷ sides) (suc x) side f h = fine_at es sides x side f.1 h

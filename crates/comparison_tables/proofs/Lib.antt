@@ -7,7 +7,7 @@ pub mod Bounds
 pub mod Picked
 pub mod Knowing
 pub mod Finding
-pub mod Planned
+pub mod Within
 pub mod Undeclared
 pub mod Ending
 pub mod Moving
@@ -18,5 +18,7 @@ pub mod Standing
 pub mod Carried
 pub mod Sized
 pub mod Rowed
+pub mod Growing
 pub mod Small
 pub mod Tabled
+pub mod Outcomes

@@ -1,8 +1,7 @@
 -- What rows say that are read off settled costs.
-use Rattle.std.proofs.Common.{◌≡◌, ◌≤◌, ◌<◌, ◌+◌, ◌==◌, ℕ, zero, suc, ◌⊎◌, inl, inr, List, [], ◌∷◌, ◌++◌, length, map, Bool, true, false, cond, ◌&&◌, find, Option, Some, None, slice_get, refl, sym, ap, ◌∙◌, subst, arith}
+use Rattle.std.proofs.Common.{◌≡◌, ◌≤◌, ◌<◌, ◌+◌, ◌==◌, ℕ, zero, suc, ◌⊎◌, inl, inr, List, [], ◌∷◌, ◌++◌, length, map, Bool, true, false, cond, find, Option, Some, None, slice_get, refl, sym, ap, ◌∙◌, subst, arith}
 use Rattle.std.specs.List.{AllByRecursion}
 use Rattle.std.specs.Option.{option_map_or}
-use Rattle.std.proofs.lemmas.Bool.{both_ways}
 use Rattle.content_models.specs.declared.content.Content.{Content}
 use Rattle.model_inclusion.specs.Listed.{Precedes, IsAscending}
 use Rattle.tree_costs.specs.declared.cost.Cost.{Cost}
@@ -19,12 +18,12 @@ use Rattle.comparison_tables.proofs.Halves.{at_is, is_own, some_found}
 
 -- ---- lists that grow at their end
 
-got_first : {A : Type 0} (xs : List A) (y : A) (i : ℕ) → i < length xs → slice_get (xs ++ y ∷ []) i ≡ slice_get xs i
+pub got_first : {A : Type 0} (xs : List A) (y : A) (i : ℕ) → i < length xs → slice_get (xs ++ y ∷ []) i ≡ slice_get xs i
 got_first [] y i l = absurd (omega arith)
 got_first (x ∷ xs) y zero l = refl
 got_first (x ∷ xs) y (suc i) l = got_first xs y i (omega arith)
 
-got_last : {A : Type 0} (xs : List A) (y : A) (i : ℕ) → i ≡ length xs → slice_get (xs ++ y ∷ []) i ≡ Some y
+pub got_last : {A : Type 0} (xs : List A) (y : A) (i : ℕ) → i ≡ length xs → slice_get (xs ++ y ∷ []) i ≡ Some y
 got_last [] y zero l = refl
 got_last [] y (suc i) l = absurd (omega arith)
 got_last (x ∷ xs) y zero l = absurd (omega arith)
@@ -35,7 +34,7 @@ got_past [] i l = refl
 got_past (x ∷ xs) zero l = absurd (omega arith)
 got_past (x ∷ xs) (suc i) l = got_past xs i (omega arith)
 
-one_longer : {A : Type 0} (xs : List A) (y : A) → length (xs ++ y ∷ []) ≡ length xs + 1
+pub one_longer : {A : Type 0} (xs : List A) (y : A) → length (xs ++ y ∷ []) ≡ length xs + 1
 one_longer [] y = refl
 one_longer (x ∷ xs) y = omega (arith, one_longer xs y)
 

@@ -201,7 +201,7 @@ module _ (first second : Declarations) (sides : List Side) (cap : ℕ) (kf : IsK
         ∙ sym (copy_cost t.0 s r (to.Gs i j) e (Some (pair_number k u.0)) t.3 (ap (option_map (pair_number k)) u.1))
 
     unlisted_are : (e : Chars) (a b : Content) (i j : ℕ) → content_in first e ≡ Some a → content_in second e ≡ Some b → (IsListed first a b i j → ⊥) → c.g e i j ≡ Fin 0
-    unlisted_are e a b i j h g no =
+    unlisted_are e a b i j h g off_list =
         let t = by_row PairRow (λ row. find (is_pair i j) row.pairs) e a h in
         let s = t.1 in
         let r = t.2 in
@@ -214,7 +214,7 @@ module _ (first second : Declarations) (sides : List Side) (cap : ℕ) (kf : IsK
             by : (z : Bool) → is_at i j y ≡ z → is_at i j y ≡ false
             by true z =
                 let w = place_stands pairs i j l (some_found pairs i j l y A.ascending u z) in
-                absurd (no (pair_listed first a (Some b) pairs l i j A w b refl))
+                absurd (off_list (pair_listed first a (Some b) pairs l i j A w b refl))
             by false z = z
 
     are_tables : AreTables first second d q c

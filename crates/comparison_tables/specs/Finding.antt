@@ -19,11 +19,11 @@ FindsSide first second name a left (Ok side) = IsSide first second (name, a) sid
 FindsSide first second name a left (Err (PairsOver other)) = (other ≡ name) × PassesBy first second name a left
 FindsSide first second name a left (Err NoMemory) = Unit {0}
 
--- the sides of the first n elements, with so many pairs left of 2,000,000
-pub record AreFound (first second : Declarations) (n : ℕ) (sides : List Side) (left : ℕ) : Type 0 where
-  pub sides_are : FitSides first second (take n first.elements) sides
+-- the sides of the first elements, with so many pairs left of 2,000,000
+pub record AreFound (first second : Declarations) (sides : List Side) (left : ℕ) : Type 0 where
+  pub sides_are : FitSides first second (take (length sides) first.elements) sides
   pub sum : ℕ
-  pub sums : SumsPairs first second (take n first.elements) sum
+  pub sums : SumsPairs first second (take (length sides) first.elements) sum
   pub rest : sum + left ≡ 2000000
 
 -- the sides of all elements, with at most 2,000,000 pairs together

@@ -2,7 +2,8 @@
 
 ghost use Rattle.std.specs.Prelude.{◌≡◌, slice_get};
 ghost use Rattle.comparison_tables.specs.Plans.{own_states, own_accepts, own_steps, states_of_copy, copy_accepts_at, steps_of_copy};
-ghost use Rattle.comparison_tables.specs.Sides.{AreSides, known_at};
+ghost use Rattle.comparison_tables.specs.Shapes.{AreFine};
+ghost use Rattle.comparison_tables.specs.Sides.{known_at};
 
 use crate::accepting::accepts;
 use crate::held::{Held, element_at};
@@ -39,12 +40,13 @@ pub(crate) fn own_step_at(first: &DeclSet, place: usize, state: u32, k: usize) -
 
 /// How many states its copy has.
 pub(crate) fn copy_states_at(first: &DeclSet, second: &DeclSet, sides: &Sides, place: usize) -> u32
-    requires { AreSides first.now second.now sides.now }
+    requires { AreFine first.now.elements sides.now }
     ensures { result ≡ states_of_copy (known_at first.now second.now sides.now place) }
 {
+    let _ = first.count();
     match element_at(first, place) {
         None => 0,
-        Some((_, automaton)) => match sides.get(place) {
+        Some((name, automaton)) => match sides.get(place) {
             None => 0,
             Some(side) => 1 + 2 * automaton.states() + side.pairs.len() as u32,
         },
@@ -59,7 +61,7 @@ pub(crate) fn copy_accepts_of(
     place: usize,
     state: u32,
 ) -> bool
-    requires { AreSides first.now second.now sides.now }
+    requires { AreFine first.now.elements sides.now }
     ensures { result ≡ copy_accepts_at (known_at first.now second.now sides.now place) state }
 {
     match element_at(first, place) {
@@ -88,7 +90,7 @@ pub(crate) fn copy_step_at(
     state: u32,
     k: usize,
 ) -> Option<Step>
-    requires { AreSides first.now second.now sides.now }
+    requires { AreFine first.now.elements sides.now }
     ensures { result ≡ slice_get (steps_of_copy first.now (known_at first.now second.now sides.now place) state) k }
 {
     let _ = first.count();

@@ -2,10 +2,11 @@
 
 ghost use Rattle.std.specs.Prelude.{◌≡◌, ◌≤◌, ◌<◌, ◌+◌, ℕ, IsTrue, ◌↔◌};
 ghost use Rattle.tree_costs.specs.Costs.{sum as cost_sum};
+ghost use Rattle.least_trees.specs.Plans.{IsPlan};
 ghost use Rattle.least_trees.specs.Rules.{IsLess};
 ghost use Rattle.comparison_tables.specs.Plans.{plan_of};
+ghost use Rattle.comparison_tables.specs.Shapes.{AreFine, are_fine_prop, is_plan_prop};
 ghost use Rattle.comparison_tables.specs.Sides.{AreSides};
-ghost use Rattle.comparison_tables.proofs.Planned.{is_plan};
 
 use crate::copies::{
     copy_accepts_of, copy_states_at, copy_step_at, own_accepts_at, own_states_at, own_step_at,
@@ -27,7 +28,8 @@ pub(crate) struct ComparisonGraph<'a> {
     looks: u64,
     sums: u64,
     ghost small: { cap ≤ 100000 },
-    ghost sided: { AreSides first.now second.now sides.now },
+    ghost fine: { AreFine first.now.elements sides.now } by { are_fine_prop first.now.elements sides.now },
+    ghost planned: { IsPlan (plan_of first.now second.now sides.now cap) } by { is_plan_prop (plan_of first.now second.now sides.now cap) },
 }
 
 impl<'a> ComparisonGraph<'a> {
@@ -64,7 +66,7 @@ impl<'a> StepGraph for ComparisonGraph<'a> {
 
     ghost sums = { λ g. g.sums };
 
-    ghost formed = { λ g. is_plan g.first.now g.second.now g.sides.now g.cap g.small g.sided };
+    ghost formed = { λ g. g.planned };
 
     fn count(&self) -> usize {
         2 * self.first.count()

@@ -77,12 +77,13 @@ fn row_from(
 }
 
 fn states_at(first: &DeclSet, place: usize) -> u32
-    ensures { result ≡ own_states (slice_get first.now.elements place) }
+    ensures value { result ≡ own_states (slice_get first.now.elements place) }
     ensures few { result ≤ 1025 }
 {
+    let _ = first.count();
     match element_at(first, place) {
         None => 0,
-        Some((_, automaton)) => automaton.states(),
+        Some((name, automaton)) => automaton.states(),
     }
 }
 

@@ -44,6 +44,8 @@ fn solved_rows(
     requires sides { AreSides first.now second.now sides.now }
     ensures { IfOk result (HaveExactCosts first.now second.now cap) }
 {
+    let _ = first.count();
+    let _ = second.count();
     let mut graph = ComparisonGraph::new(first, second, sides, cap);
     let settled = least_counted(alloc, &mut graph)?;
     rows_of(alloc, first, second, sides, settled.rows.as_slice())

@@ -14,7 +14,7 @@ use Rattle.position_automata.proofs.Meaning.{to_member}
 use Rattle.position_automata.proofs.Stepping.{accepts_by_test, accept_within, are_within}
 use Rattle.position_automata.proofs.Words.{Member, unmapped}
 use Rattle.decl_set.specs.Children.{child_step}
-use Rattle.decl_set.specs.Declarations.{Declarations, Element}
+use Rattle.decl_set.specs.Declarations.{Declarations, Element, content_in}
 use Rattle.decl_set.specs.Steps.{steps_in, steps_at}
 use Rattle.tree_costs.specs.Leasts.{place_of}
 use Rattle.tree_costs.proofs.Places.{stands_at}
@@ -28,7 +28,9 @@ use Rattle.comparison_tables.specs.Copies.{copy_states, kind_in, kind_accepts, c
 use Rattle.comparison_tables.specs.Plans.{own_states, own_accepts, own_steps, states_of_copy, copy_accepts_at, steps_of_copy, is_own, known_of, plan_of}
 use Rattle.comparison_tables.proofs.Halves.{place_stands}
 use Rattle.comparison_tables.proofs.Kinded.{IsNumber, numbered}
+use Rattle.comparison_tables.proofs.Knowing.{pairs_ascend}
 use Rattle.comparison_tables.proofs.Lists.{flat_member}
+use Rattle.comparison_tables.specs.Shapes.{AreFine}
 
 pub one_state : (a : Content) → 1 ≤ states a
 one_state Empty = omega arith
@@ -171,18 +173,28 @@ known_within first second sides x k h = by (slice_get first.elements x) refl
     by None q = absurd (let none : None ≡ Some k = sym (ap (λ (z : Option Element). known_by second z (slice_get sides x)) q) ∙ h in cc)
     by (Some e) q = slice_get_within first.elements x e q
 
-known_there : (first second : Declarations) (sides : List Side) (x : ℕ) → AreSides first second sides → x < length first.elements → (k : Known) × (known_at first second sides x ≡ Some k)
+known_there : (first second : Declarations) (sides : List Side) (x : ℕ) → AreFine first.elements sides → x < length first.elements → (k : Known) × (known_at first second sides x ≡ Some k)
 known_there first second sides x S l = by first.elements sides x S l
   where
-    by : (es : List Element) (sides : List Side) (x : ℕ) → FitSides first second es sides → x < length es → (k : Known) × (known_by second (slice_get es x) (slice_get sides x) ≡ Some k)
+    by : (es : List Element) (sides : List Side) (x : ℕ) → AreFine es sides → x < length es → (k : Known) × (known_by second (slice_get es x) (slice_get sides x) ≡ Some k)
     by [] sides x f l = absurd (omega arith)
     by (e ∷ es) [] x f l = elim f [ ]
     by (e ∷ es) (side ∷ sides) zero f l = (known second e side, refl)
     by (e ∷ es) (side ∷ sides) (suc x) f l = by es sides x f.1 (omega arith)
 
+-- the sides of elements are fine
+pub fine_sides : (first second : Declarations) (sides : List Side) → AreSides first second sides → AreFine first.elements sides
+fine_sides first second sides S = by first.elements sides S
+  where
+    by : (es : List Element) (sides : List Side) → FitSides first second es sides → AreFine es sides
+    by [] [] f = tt
+    by [] (side ∷ sides) f = elim f [ ]
+    by (e ∷ es) [] f = elim f [ ]
+    by (e ∷ es) (side ∷ sides) f = ((pairs_ascend first e.1 (content_in second e.0) side.pairs (f.0).pairs, (f.0).few), by es sides f.1)
+
 -- ---- both
 
-module _ (first second : Declarations) (sides : List Side) (cap : ℕ) (small : cap ≤ 100000) (S : AreSides first second sides) where
+module _ (first second : Declarations) (sides : List Side) (cap : ℕ) (small : cap ≤ 100000) (S : AreFine first.elements sides) where
   abbrev P : Plan
   P = plan_of first second sides cap
 
@@ -230,8 +242,8 @@ module _ (first second : Declarations) (sides : List Side) (cap : ℕ) (small : 
       (λ t h. let w = own_step_in first (slice_get first.elements x) i step h in (omega (arith, let l : x < c = ltb-true x c t in l), w.0, w.1, w.2))
       (λ t h. copy_stepping x i (known_of first second sides x) step (ltb-false x c t) refl h) h
 
-  pub is_plan : IsPlan (plan_of first second sides cap)
-  is_plan = record {
+  pub stays_within : IsPlan (plan_of first second sides cap)
+  stays_within = record {
     cap = small;
     starts = starts;
     positive = λ e h. omega arith;
