@@ -1,31 +1,27 @@
 -- The costs of a comparison's plan are those of its graph.
-use Rattle.std.proofs.Common.{◌≡◌, ◌≤◌, ◌<◌, ◌+◌, ◌-◌, ℕ, zero, suc, ◌⊎◌, inl, inr, List, [], ◌∷◌, length, Bool, true, false, cond, Option, Some, None, slice_get, Contains, refl, sym, ap, ◌∙◌, subst, arith, true≢false}
-use Rattle.std.specs.Prelude.{nat_lt, option_and_then, option_map}
+use Rattle.std.proofs.Common.{◌≡◌, ◌≤◌, ◌<◌, ◌+◌, ◌-◌, ℕ, zero, suc, ◌⊎◌, inl, inr, List, [], ◌∷◌, length, false, cond, Option, Some, None, slice_get, Contains, refl, sym, ap, ◌∙◌, subst, arith, true≢false}
+use Rattle.std.specs.Prelude.{option_and_then, option_map}
 use Rattle.std.proofs.lemmas.Bool.{ltb-true, ltb-false}
 use Rattle.attribute_types.proofs.TextTests.{on_test}
-use Rattle.content_models.specs.Model.{Chars}
 use Rattle.position_automata.specs.Automata.{states}
 use Rattle.position_automata.proofs.Meaning.{to_member}
 use Rattle.position_automata.proofs.Words.{Member}
 use Rattle.decl_set.specs.Asked.{IsKept}
 use Rattle.decl_set.specs.Declarations.{Declarations, Element}
-use Rattle.tree_costs.specs.declared.cost.Cost.{Cost}
-use Rattle.tree_costs.specs.Graphs.{Graph, Forest, bare, tree, IsSolved}
+use Rattle.tree_costs.specs.Graphs.{Graph, bare, tree}
 use Rattle.tree_costs.specs.Leasts.{place_of}
 use Rattle.tree_costs.specs.Numbered.{IsDead, IsStuck, graph_of}
 use Rattle.tree_costs.proofs.Places.{has_none}
 use Rattle.least_trees.specs.Plans.{Step}
 use Rattle.exact_tables.specs.Comparing.{Elem, Plain, Copy, State, comparison}
 use Rattle.exact_tables.specs.Comparing as to
-use Rattle.comparison_tables.specs.declared.kinds.Kind.{Kind}
-use Rattle.comparison_tables.specs.declared.kinds.Kind.TheVariants as kind
 use Rattle.comparison_tables.specs.declared.sides.Side.{Side}
 use Rattle.comparison_tables.specs.Laws.{NumbersStand, CostsAreCarried}
-use Rattle.comparison_tables.specs.Sides.{AreSides, Known, known, known_at}
+use Rattle.comparison_tables.specs.Sides.{AreSides, Known, known}
 use Rattle.comparison_tables.specs.Copies.{kind_in, kind_accepts, kind_steps}
 use Rattle.comparison_tables.specs.Plans.{own_accepts, own_steps, copy_accepts_at, steps_of_copy, is_own, known_of, numbers_of}
 use Rattle.comparison_tables.specs.Standing.{name_in, label, state, copy_state, meaning, number_in, number, copy_number, state_number}
-use Rattle.comparison_tables.proofs.Carrying.{Counts, CountsState, AreNumbers, carried}
+use Rattle.comparison_tables.proofs.Carrying.{carried}
 use Rattle.comparison_tables.proofs.Kinded.{numbered}
 use Rattle.comparison_tables.proofs.Knowing.{Stands, is_known, none_known, either_stands}
 use Rattle.comparison_tables.proofs.Numbering.{named, named_states, state_numbers, beyond_none}

@@ -1,10 +1,10 @@
 -- The costs of a graph of numbers, by the numbers of what they stand for.
-use Rattle.std.proofs.Common.{◌≡◌, ◌⊎◌, inl, inr, ℕ, List, [], ◌∷◌, map, Option, Some, None, refl, sym, ap, ◌∙◌, subst}
+use Rattle.std.proofs.Common.{◌≡◌, ◌⊎◌, inl, inr, map, Option, Some, None, refl, sym, ap, ◌∙◌, subst}
 use Rattle.std.specs.Option.{option_map_or}
 use Rattle.tree_costs.specs.declared.cost.Cost.{Cost}
 use Rattle.tree_costs.specs.declared.cost.Cost.TheVariants.{Inf}
 use Rattle.tree_costs.specs.Costs.{IsLeast}
-use Rattle.tree_costs.specs.Graphs.{Graph, Forest, Grows, OfTree, Path, OfPath, IsSolved}
+use Rattle.tree_costs.specs.Graphs.{Graph, Grows, OfTree, Path, OfPath, IsSolved}
 use Rattle.tree_costs.specs.Numbered.{IsDead, IsStuck, StandsFor, AreCarried}
 use Rattle.tree_costs.proofs.Numbered.{tree-to, path-to}
 

@@ -1,16 +1,15 @@
 -- A state of a copy accepts where what it stands for does.
-use Rattle.std.proofs.Common.{◌≡◌, ℕ, ◌⊎◌, inl, inr, Bool, true, false, not, ◌&&◌, ◌||◌, Option, Some, None, refl, sym, ap, ◌∙◌, subst, true≢false}
-use Rattle.std.specs.Prelude.{is_some, ◌↔◌}
-use Rattle.std.proofs.lemmas.Bool.{and_parts, and_from, or_left, or_right, or_cases, not-true, not_from_false, both_ways}
+use Rattle.std.proofs.Common.{◌≡◌, ℕ, ◌⊎◌, inl, inr, Bool, true, false, not, ◌&&◌, ◌||◌, Option, Some, None, refl, sym, ◌∙◌, subst, true≢false}
+use Rattle.std.specs.Prelude.{◌↔◌}
+use Rattle.std.proofs.lemmas.Bool.{and_parts, and_from, or_left, or_right, or_cases, not-true, both_ways}
 use Rattle.content_models.specs.declared.content.Content.{Content}
 use Rattle.content_models.specs.Model.{Chars}
 use Rattle.position_automata.specs.Automata.{Accepts, states}
 use Rattle.position_automata.specs.Stepping.{does_accept}
 use Rattle.position_automata.proofs.Stepping.{accepts_by_test}
 use Rattle.decl_set.specs.Declarations.{Declarations, content_in}
-use Rattle.decl_set.specs.Oddness.{odd_in}
 use Rattle.exact_tables.specs.Families.{IsListed}
-use Rattle.exact_tables.specs.Comparing.{Elem, Plain, Copy, Ends, EndsAlone, IsOdd, accepts}
+use Rattle.exact_tables.specs.Comparing.{Copy, Ends, EndsAlone, IsOdd, accepts}
 use Rattle.exact_tables.proofs.Closing.{start_listed}
 use Rattle.comparison_tables.specs.declared.kinds.Kind.{Kind}
 use Rattle.comparison_tables.specs.declared.kinds.Kind.TheVariants as kind

@@ -1,13 +1,12 @@
 -- The sides of elements, and where the listed pairs are too many.
-use Rattle.std.proofs.Common.{◌≡◌, ◌≤◌, ◌<◌, ◌+◌, ◌-◌, ℕ, zero, suc, List, [], ◌∷◌, ◌++◌, length, take, drop, Bool, Option, Some, None, Result, Ok, Err, slice_get, refl, sym, ap, ◌∙◌, subst, arith}
+use Rattle.std.proofs.Common.{◌≡◌, ◌≤◌, ◌+◌, ◌-◌, ℕ, zero, suc, List, [], ◌∷◌, ◌++◌, length, take, drop, Bool, Option, Some, None, Ok, Err, slice_get, refl, sym, ap, ◌∙◌, subst, arith}
 use Rattle.std.specs.Prelude.{is_some}
 use Rattle.content_models.specs.declared.content.Content.{Content}
 use Rattle.content_models.specs.Model.{Chars}
 use Rattle.decl_set.specs.Declarations.{Declarations, Element, content_in}
 use Rattle.decl_set.specs.Oddness.{odd_in}
-use Rattle.model_inclusion.specs.declared.fault.PairFault.{PairFault}
 use Rattle.model_inclusion.specs.declared.fault.PairFault.TheVariants as pair
-use Rattle.model_inclusion.specs.Listed.{ArePairs, ListsPairs}
+use Rattle.model_inclusion.specs.Listed.{ListsPairs}
 use Rattle.tagset_compare.specs.Live.{AreLive}
 use Rattle.tagset_compare.specs.Reported.{CountsPairs, SumsPairs, PassesAt}
 use Rattle.tagset_compare.proofs.Judging.{are_listed}
@@ -16,7 +15,6 @@ use Rattle.comparison_tables.specs.declared.fault.TablesFault.{TablesFault}
 use Rattle.comparison_tables.specs.declared.fault.TablesFault.TheVariants as fault
 use Rattle.comparison_tables.specs.Finding.{PassesBy, FindsSide, FindsSides, AreFound, FindsAll}
 use Rattle.comparison_tables.specs.Sides.{ArePairsOf, IsSide, FitSides}
-
 
 -- ---- one element
 

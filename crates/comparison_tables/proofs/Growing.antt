@@ -1,5 +1,5 @@
 -- One more row of tables.
-use Rattle.std.proofs.Common.{◌≡◌, ◌≤◌, ◌<◌, ◌+◌, ℕ, zero, suc, ◌⊎◌, inl, inr, List, [], ◌∷◌, ◌++◌, length, Option, Some, None, slice_get, refl, sym, ap, ◌∙◌, subst, arith}
+use Rattle.std.proofs.Common.{◌≡◌, ◌≤◌, ◌<◌, ◌+◌, ℕ, zero, suc, inl, inr, List, [], ◌∷◌, ◌++◌, length, Option, Some, None, slice_get, sym, ap, ◌∙◌, subst, arith}
 use Rattle.std.proofs.lemmas.Bool.{cases_lt}
 use Rattle.std.proofs.lemmas.Option.{slice_get_within}
 use Rattle.position_automata.specs.Automata.{states}
@@ -11,7 +11,7 @@ use Rattle.bound_checker.specs.declared.tables.Row.{Row}
 use Rattle.comparison_tables.specs.declared.sides.Side.{Side}
 use Rattle.comparison_tables.specs.Plans.{own_states}
 use Rattle.comparison_tables.specs.Rows.{row_from, IsRowOf, AreRows}
-use Rattle.comparison_tables.specs.Sides.{FitSides, AreSides, Known, known, known_at}
+use Rattle.comparison_tables.specs.Sides.{FitSides, AreSides, Known, known_at}
 use Rattle.comparison_tables.proofs.Knowing.{as_many, either_stands, is_known}
 use Rattle.comparison_tables.proofs.Rowed.{got_first, got_last, one_longer}
 
@@ -40,9 +40,13 @@ module _ (first second : Declarations) (sides : List Side) (settled : List (Sett
         let z : Some s.side ≡ Some side = sym s.side_there ∙ h in
         let same : s.side ≡ side = cc in
         let size : n ≡ states s.element.1 = e ∙ ap own_states s.there in
-        subst (λ (k : Option Known). IsRowOf settled (length first.elements) k x (Some row)) (sym (is_known first second sides kept S x s))
-        (own, copy, o, ap (λ k. slice_get settled (k + x)) (sym q) ∙ c,
-        ap (λ z. Some z) (r ∙ ap (λ k. row_from k side.pairs own copy) size ∙ ap (λ (k : Side). row_from (states s.element.1) k.pairs own copy) (sym same)))
+        subst (λ (k : Option Known). IsRowOf settled (length first.elements) k x (Some row)) (sym (is_known first second sides kept S x s)) (
+          own,
+          copy,
+          o,
+          ap (λ k. slice_get settled (k + x)) (sym q) ∙ c,
+          ap (λ z. Some z) (r ∙ ap (λ k. row_from k side.pairs own copy) size ∙ ap (λ (k : Side). row_from (states s.element.1) k.pairs own copy) (sym same)),
+        )
     | inr none ↦ absurd (there first.elements x (let l = slice_get_within sides x side h in omega (arith, l, as_many first second first.elements sides S)) none)
   ]
 

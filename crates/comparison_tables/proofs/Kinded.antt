@@ -1,8 +1,7 @@
 -- The numbers of a copy's states, and what they are for.
-use Rattle.std.proofs.Common.{◌≡◌, ◌≤◌, ◌<◌, ◌+◌, ◌-◌, ℕ, zero, suc, Bool, true, false, cond, List, [], ◌∷◌, length, Option, Some, None, refl, sym, ap, ◌∙◌, subst, arith, slice_get}
+use Rattle.std.proofs.Common.{◌≡◌, ◌≤◌, ◌<◌, ◌+◌, ◌-◌, ℕ, zero, suc, Bool, true, false, cond, List, [], ◌∷◌, length, Option, Some, None, refl, sym, ap, ◌∙◌, arith, slice_get}
 use Rattle.std.specs.Prelude.{nat_lt}
 use Rattle.std.proofs.lemmas.Bool.{lt-ltb, le-ltb, ltb-true, ltb-false}
-use Rattle.std.proofs.lemmas.Option.{slice_get_within}
 use Rattle.attribute_types.proofs.TextTests.{on_test}
 use Rattle.comparison_tables.specs.declared.kinds.Kind.{Kind}
 use Rattle.comparison_tables.specs.declared.kinds.Kind.TheVariants.{Start, Go, Wrong, Pair, Beyond}

@@ -1,23 +1,20 @@
 -- The steps of a copy are those of what it stands for.
-use Rattle.std.proofs.Common.{◌≡◌, ◌<◌, ◌+◌, ◌-◌, ℕ, ◌⊎◌, inl, inr, List, [], ◌∷◌, length, map, Bool, true, false, cond, Option, Some, None, slice_get, refl, sym, ap, ◌∙◌, subst, arith, true≢false}
-use Rattle.std.specs.Prelude.{nat_lt, is_some}
+use Rattle.std.proofs.Common.{◌≡◌, ◌<◌, ◌+◌, ◌-◌, ℕ, inl, inr, List, length, Bool, true, false, cond, Option, Some, None, slice_get, refl, sym, ap, ◌∙◌, subst, arith}
 use Rattle.std.specs.Option.{option_map}
 use Rattle.std.proofs.lemmas.Bool.{lt-ltb, le-ltb}
 use Rattle.std.proofs.lemmas.Option.{slice_get_within}
 use Rattle.content_models.specs.declared.content.Content.{Content}
 use Rattle.content_models.specs.Model.{Chars}
-use Rattle.position_automata.specs.Automata.{FollowsOn, states, IsDeterministic}
+use Rattle.position_automata.specs.Automata.{FollowsOn, states}
 use Rattle.position_automata.specs.Stepping.{step_on}
-use Rattle.position_automata.proofs.Stepping.{are_within, on_to, on_none, on_from}
-use Rattle.position_automata.proofs.Words.{Member, mapped, unmapped}
-use Rattle.decl_set.specs.Asked.{IsKept}
+use Rattle.position_automata.proofs.Stepping.{are_within, on_to, on_none}
+use Rattle.position_automata.proofs.Words.{Member, unmapped}
 use Rattle.decl_set.specs.Children.{child_step}
-use Rattle.decl_set.specs.Declarations.{Declarations, Element, content_in}
+use Rattle.decl_set.specs.Declarations.{Declarations}
 use Rattle.decl_set.specs.Steps.{steps_in}
-use Rattle.decl_set.proofs.Found.{element_is}
 use Rattle.tree_costs.specs.Leasts.{place_of}
-use Rattle.tree_costs.proofs.Places.{has_place, stands_at}
-use Rattle.tree_costs.proofs.Steps.{follows_in, steps_from}
+use Rattle.tree_costs.proofs.Places.{stands_at}
+use Rattle.tree_costs.proofs.Steps.{follows_in}
 use Rattle.least_trees.specs.Plans.{Step}
 use Rattle.exact_tables.specs.Families.{IsListed}
 use Rattle.exact_tables.specs.Comparing.{Elem, Plain, Copy, State, Moves, MovesBoth, MovesAlone, IsOdd, step}
@@ -27,14 +24,13 @@ use Rattle.comparison_tables.specs.declared.kinds.Kind.{Kind}
 use Rattle.comparison_tables.specs.declared.kinds.Kind.TheVariants as kind
 use Rattle.comparison_tables.specs.declared.sides.Side.{Side}
 use Rattle.comparison_tables.specs.Kinds.{go_number, wrong_number, pair_number}
-use Rattle.comparison_tables.specs.Sides.{ArePairsOf, Known, pair_place}
-use Rattle.comparison_tables.specs.Copies.{kind_in, to_go, to_copy, to_wrong, to_listed, to_either, to_other, to_odd, no_step, pair_step, wrong_steps, start_steps, kind_steps}
-use Rattle.comparison_tables.specs.Plans.{is_own}
+use Rattle.comparison_tables.specs.Sides.{Known, pair_place}
+use Rattle.comparison_tables.specs.Copies.{kind_in, to_go, to_copy, to_wrong, to_listed, to_either, to_other, to_odd, pair_step, wrong_steps, start_steps, kind_steps}
 use Rattle.comparison_tables.specs.Standing.{name_in, label, meaning}
 use Rattle.comparison_tables.proofs.Halves.{place_stands}
 use Rattle.comparison_tables.proofs.Kinded.{IsNumber, go_kind, wrong_kind, pair_kind_is}
-use Rattle.comparison_tables.proofs.Knowing.{Knows, pair_listed, listed_place}
-use Rattle.comparison_tables.proofs.Lists.{flat_member, member_flat}
+use Rattle.comparison_tables.proofs.Knowing.{Knows, pair_listed}
+use Rattle.comparison_tables.proofs.Lists.{flat_member}
 
 module _ (first second : Declarations) (sides : List Side) where
   abbrev n : ℕ

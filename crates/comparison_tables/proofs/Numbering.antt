@@ -1,5 +1,5 @@
 -- The numbers of what the elements and states of a comparison's plan stand for.
-use Rattle.std.proofs.Common.{◌≡◌, ◌≤◌, ◌<◌, ◌+◌, ◌-◌, ℕ, ◌⊎◌, inl, inr, List, [], ◌∷◌, length, Bool, true, false, cond, Option, Some, None, slice_get, refl, sym, ap, ◌∙◌, subst, arith}
+use Rattle.std.proofs.Common.{◌≡◌, ◌≤◌, ◌<◌, ◌+◌, ◌-◌, ℕ, ◌⊎◌, inl, inr, List, length, Bool, cond, Option, Some, None, refl, sym, ap, ◌∙◌, subst, arith}
 use Rattle.std.specs.Prelude.{nat_lt, option_and_then, option_map}
 use Rattle.std.proofs.lemmas.Bool.{lt-ltb, le-ltb, ltb-true, ltb-false}
 use Rattle.std.proofs.lemmas.Option.{slice_get_within}
@@ -10,7 +10,6 @@ use Rattle.position_automata.specs.Automata.{states}
 use Rattle.position_automata.proofs.Stepping.{are_within, accept_within}
 use Rattle.decl_set.specs.Asked.{IsKept}
 use Rattle.decl_set.specs.Declarations.{Declarations, Element, content_in}
-use Rattle.tree_costs.specs.Graphs.{Graph}
 use Rattle.tree_costs.specs.Leasts.{place_of}
 use Rattle.tree_costs.specs.Numbered.{IsDead, IsStuck}
 use Rattle.tree_costs.proofs.Places.{has_place, stands_at}
@@ -23,13 +22,13 @@ use Rattle.comparison_tables.specs.declared.sides.Side.{Side}
 use Rattle.comparison_tables.specs.Kinds.{go_number, wrong_number, pair_number}
 use Rattle.comparison_tables.specs.Sides.{ArePairsOf, AreSides, Known, known, known_at, pair_place}
 use Rattle.comparison_tables.specs.Copies.{kind_in}
-use Rattle.comparison_tables.specs.Plans.{is_own, known_of}
-use Rattle.comparison_tables.specs.Standing.{name_in, label, state, copy_state, meaning, among_states, number_in, number, copy_number, state_number}
+use Rattle.comparison_tables.specs.Plans.{known_of}
+use Rattle.comparison_tables.specs.Standing.{label, state, copy_state, meaning, among_states, number_in, number, copy_number, state_number}
 use Rattle.comparison_tables.proofs.Halves.{place_stands, some_found, is_own as is_own_pair}
-use Rattle.comparison_tables.proofs.Kinded.{IsNumber, numbered, go_kind, wrong_kind, pair_kind_is}
-use Rattle.comparison_tables.proofs.Knowing.{Knows, Stands, stands, is_known, none_known, either_stands, stands_within, pairs_ascend, listed_place}
+use Rattle.comparison_tables.proofs.Kinded.{IsNumber, go_kind, wrong_kind, pair_kind_is}
+use Rattle.comparison_tables.proofs.Knowing.{Knows, Stands, stands, is_known, pairs_ascend, listed_place}
 use Rattle.comparison_tables.proofs.Moving.{label_own, label_copy}
-use Rattle.comparison_tables.proofs.Undeclared.{is_dead, is_stuck, none_leads, own_only, own_ends}
+use Rattle.comparison_tables.proofs.Undeclared.{is_dead, is_stuck, none_leads, own_only}
 
 -- ---- the numbers of a copy's states
 
@@ -204,7 +203,7 @@ module _ (first second : Declarations) (sides : List Side) (kf : IsKept first) (
           → (label first second sides x ≡ Copy e) × (state first second sides x t ≡ w)
       by {k} None q is h = absurd (let z : None ≡ Some (x, t) = sym (ap (option_map {U = ℕ × ℕ} (λ u. (n + y, u))) q) ∙ h in cc)
       by {k} (Some u) q is h =
-          let z : Some (n + y, u) ≡ Some (x, t) = sym (ap (option_map {U = ℕ × ℕ} (λ u. (n + y, u))) q) ∙ h in
+          let z : ◌≡◌ {A = Option (ℕ × ℕ)} (Some (n + y, u)) (Some (x, t)) = sym (ap (option_map {U = ℕ × ℕ} (λ u. (n + y, u))) q) ∙ h in
           let both : ◌≡◌ {A = ℕ × ℕ} (n + y, u) (x, t) = cc in
           let place : n + y ≡ x = ap (λ z. z.0) both in
           let same : u ≡ t = ap (λ z. z.1) both in (
@@ -219,7 +218,7 @@ module _ (first second : Declarations) (sides : List Side) (kf : IsKept first) (
       by : (o : Option ℕ) → place_of first e ≡ o → option_map {U = ℕ × ℕ} (λ y. (y, i)) o ≡ Some (x, t) → (label first second sides x ≡ Plain e) × (state first second sides x t ≡ to.Go i)
       by None q h = absurd (let z : None ≡ Some (x, t) = h in cc)
       by (Some y) q h =
-          let z : Some (y, i) ≡ Some (x, t) = h in
+          let z : ◌≡◌ {A = Option (ℕ × ℕ)} (Some (y, i)) (Some (x, t)) = h in
           let both : ◌≡◌ {A = ℕ × ℕ} (y, i) (x, t) = cc in
           let place : y ≡ x = ap (λ z. z.0) both in
           let same : i ≡ t = ap (λ z. z.1) both in (

@@ -1,5 +1,5 @@
 -- Each step of what a copy's state stands for is one of the copy, but on elements that are not declared.
-use Rattle.std.proofs.Common.{◌≡◌, ◌<◌, ◌+◌, ℕ, ◌⊎◌, inl, inr, List, [], ◌∷◌, length, map, Bool, true, false, Option, Some, None, slice_get, refl, sym, ap, ◌∙◌, subst, arith}
+use Rattle.std.proofs.Common.{◌≡◌, ◌<◌, ◌+◌, ℕ, ◌⊎◌, inl, inr, List, length, Option, Some, None, slice_get, refl, sym, ap, ◌∙◌, subst, arith}
 use Rattle.std.specs.Option.{option_map}
 use Rattle.content_models.specs.declared.content.Content.{Content}
 use Rattle.content_models.specs.Model.{Chars}
@@ -24,7 +24,7 @@ use Rattle.comparison_tables.specs.declared.kinds.Kind.{Kind}
 use Rattle.comparison_tables.specs.declared.kinds.Kind.TheVariants as kind
 use Rattle.comparison_tables.specs.declared.sides.Side.{Side}
 use Rattle.comparison_tables.specs.Kinds.{go_number, wrong_number, pair_number}
-use Rattle.comparison_tables.specs.Sides.{ArePairsOf, Known, pair_place}
+use Rattle.comparison_tables.specs.Sides.{ArePairsOf, Known}
 use Rattle.comparison_tables.specs.Copies.{to_go, to_copy, to_wrong, to_listed, to_either, to_other, to_odd, pair_step, wrong_steps, start_steps, kind_steps}
 use Rattle.comparison_tables.specs.Standing.{label, meaning}
 use Rattle.comparison_tables.proofs.Knowing.{Knows, listed_place}

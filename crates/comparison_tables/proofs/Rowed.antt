@@ -1,20 +1,15 @@
 -- What rows say that are read off settled costs.
-use Rattle.std.proofs.Common.{◌≡◌, ◌≤◌, ◌<◌, ◌+◌, ◌==◌, ℕ, zero, suc, ◌⊎◌, inl, inr, List, [], ◌∷◌, ◌++◌, length, map, Bool, true, false, cond, find, Option, Some, None, slice_get, refl, sym, ap, ◌∙◌, subst, arith}
+use Rattle.std.proofs.Common.{◌≡◌, ◌≤◌, ◌<◌, ◌+◌, ℕ, zero, suc, ◌⊎◌, inl, inr, List, [], ◌∷◌, ◌++◌, length, map, Bool, true, false, cond, find, Some, None, slice_get, refl, sym, ap, ◌∙◌, subst, arith}
 use Rattle.std.specs.List.{AllByRecursion}
-use Rattle.std.specs.Option.{option_map_or}
-use Rattle.content_models.specs.declared.content.Content.{Content}
 use Rattle.model_inclusion.specs.Listed.{Precedes, IsAscending}
 use Rattle.tree_costs.specs.declared.cost.Cost.{Cost}
-use Rattle.tree_costs.specs.declared.cost.Cost.TheVariants.{Inf}
-use Rattle.tree_costs.specs.Costs.{IsSmall}
 use Rattle.bound_checker.specs.declared.tables.StateRow.{StateRow}
 use Rattle.bound_checker.specs.declared.tables.PairRow.{PairRow}
 use Rattle.bound_checker.specs.Tabled.{is_pair, IsBefore, AreAscending}
-use Rattle.comparison_tables.specs.Kinds.{pair_number}
 use Rattle.comparison_tables.specs.Outcome.{states_of}
-use Rattle.comparison_tables.specs.Rows.{cost_at, state_row, state_rows, pair_row, pair_rows}
-use Rattle.comparison_tables.specs.Sides.{is_at, pair_place}
-use Rattle.comparison_tables.proofs.Halves.{at_is, is_own, some_found}
+use Rattle.comparison_tables.specs.Rows.{state_row, state_rows, pair_row, pair_rows}
+use Rattle.comparison_tables.specs.Sides.{is_at}
+use Rattle.comparison_tables.proofs.Halves.{at_is, is_own}
 
 -- ---- lists that grow at their end
 

@@ -1,7 +1,6 @@
 -- How large the graph of a comparison is.
-use Rattle.std.proofs.Common.{◌≡◌, ◌≤◌, ◌<◌, ◌+◌, ◌-◌, ◌*◌, ℕ, zero, suc, ◌==◌, inl, inr, List, [], ◌∷◌, ◌++◌, length, map, Bool, true, false, cond, Option, Some, None, slice_get, refl, sym, ap, ◌∙◌, subst, arith}
+use Rattle.std.proofs.Common.{◌≡◌, ◌≤◌, ◌<◌, ◌+◌, ◌-◌, ◌*◌, ℕ, zero, suc, ◌==◌, inl, inr, List, [], ◌∷◌, length, map, Bool, true, false, cond, Option, Some, None, slice_get, refl, sym, subst, arith}
 use Rattle.std.specs.List.{flat_map}
-use Rattle.std.specs.Option.{option_map_or}
 use Rattle.std.proofs.lemmas.List.{length-map}
 use Rattle.attribute_types.proofs.TextTests.{on_test}
 use Rattle.content_models.specs.declared.content.Content.{Content}
@@ -13,13 +12,13 @@ use Rattle.position_automata.proofs.Stepping.{few_steps}
 use Rattle.decl_set.specs.Asked.{IsKept}
 use Rattle.decl_set.specs.Children.{child_step}
 use Rattle.decl_set.specs.Declarations.{Declarations, Element}
-use Rattle.decl_set.specs.Steps.{steps_in as steps_of_content, steps_at}
+use Rattle.decl_set.specs.Steps.{steps_in as steps_of_content}
 use Rattle.least_trees.specs.Plans.{Plan, Step, steps_within, steps_below, states_below, steps_in, states_in}
 use Rattle.comparison_tables.specs.declared.kinds.Kind.{Kind}
 use Rattle.comparison_tables.specs.declared.kinds.Kind.TheVariants as kind
 use Rattle.comparison_tables.specs.declared.sides.Side.{Side}
 use Rattle.comparison_tables.specs.Sides.{AreSides, Known, known, known_at}
-use Rattle.comparison_tables.specs.Copies.{copy_states, kind_in, to_go, to_copy, to_wrong, to_odd, pair_step, wrong_steps, start_steps, kind_steps, copy_steps}
+use Rattle.comparison_tables.specs.Copies.{kind_in, to_go, to_copy, to_wrong, to_odd, pair_step, kind_steps}
 use Rattle.comparison_tables.specs.Plans.{own_states, own_steps, states_of_copy, steps_of_copy, is_own, known_of, plan_of}
 use Rattle.comparison_tables.proofs.Bounds.{few_states, proper_at}
 use Rattle.comparison_tables.proofs.Knowing.{either_stands, is_known, none_known}

@@ -1,15 +1,14 @@
 -- Solved costs are small.
-use Rattle.std.proofs.Common.{◌≡◌, ◌<◌, ◌+◌, ℕ, ◌⊎◌, inl, inr, List, [], ◌∷◌, refl, sym, ap, ◌∙◌, subst, arith}
+use Rattle.std.proofs.Common.{◌<◌, ◌+◌, ℕ, inl, inr, List, [], ◌∷◌, sym, subst}
 use Rattle.content_models.specs.declared.content.Content.{Content}
 use Rattle.content_models.specs.Model.{Chars}
 use Rattle.position_automata.specs.Automata.{states, Leads, Way}
 use Rattle.position_automata.proofs.Running.{start_within, follows_to}
 use Rattle.position_automata.proofs.States.{leads_by_ways}
 use Rattle.tree_costs.specs.declared.cost.Cost.{Cost}
-use Rattle.tree_costs.specs.declared.cost.Cost.TheVariants.{Inf}
-use Rattle.tree_costs.specs.Costs.{IsSmall, total}
+use Rattle.tree_costs.specs.Costs.{IsSmall}
 use Rattle.tree_costs.specs.Graphs.{Graph, IsSolved, weights}
-use Rattle.tree_costs.proofs.Costs.{attained-is, cut-is, total-is}
+use Rattle.tree_costs.proofs.Costs.{cut-is, total-is}
 
 module _ {E S : Type 0} (G : Graph E S) (m : E → Cost) (p : E → S → Cost) (X : IsSolved G m p) where
   pub tree_small : (x : E) → IsSmall G.cap (m x)

@@ -1,20 +1,16 @@
 -- The numbers of a comparison's plan stand for its graph.
-use Rattle.std.proofs.Common.{◌≡◌, ◌≤◌, ◌<◌, ◌+◌, ◌-◌, ℕ, ◌⊎◌, inl, inr, List, [], ◌∷◌, length, map, Bool, true, false, cond, Option, Some, None, slice_get, IsTrue, Contains, refl, sym, ap, ◌∙◌, subst, arith, true≢false}
-use Rattle.std.specs.Prelude.{nat_lt, ◌↔◌}
-use Rattle.std.specs.Option.{option_map_or}
-use Rattle.std.proofs.lemmas.Bool.{ltb-true, ltb-false}
+use Rattle.std.proofs.Common.{◌≡◌, ◌-◌, ℕ, ◌⊎◌, inl, inr, List, [], length, map, true, false, cond, Option, Some, None, slice_get, Contains, refl, sym, ap, ◌∙◌, subst, true≢false}
+use Rattle.std.specs.Prelude.{◌↔◌}
 use Rattle.attribute_types.proofs.TextTests.{on_test}
 use Rattle.content_models.specs.declared.content.Content.{Content}
-use Rattle.content_models.specs.Model.{Chars}
 use Rattle.position_automata.specs.Automata.{FollowsOn, Accepts, states}
-use Rattle.position_automata.specs.Stepping.{does_accept}
 use Rattle.position_automata.proofs.Meaning.{to_member, contains_of}
 use Rattle.position_automata.proofs.Stepping.{accepts_by_test}
 use Rattle.position_automata.proofs.Words.{Member, mapped, unmapped}
 use Rattle.decl_set.specs.Asked.{IsKept}
 use Rattle.decl_set.specs.Children.{child_step}
 use Rattle.decl_set.specs.Declarations.{Declarations, Element, content_in}
-use Rattle.decl_set.specs.Steps.{steps_in, steps_at}
+use Rattle.decl_set.specs.Steps.{steps_in}
 use Rattle.decl_set.proofs.Found.{element_is}
 use Rattle.tree_costs.specs.Graphs.{Graph}
 use Rattle.tree_costs.specs.Leasts.{place_of}
@@ -31,8 +27,8 @@ use Rattle.comparison_tables.specs.Plans.{own_accepts, own_steps, copy_accepts_a
 use Rattle.comparison_tables.specs.Standing.{name_in, label, state, copy_state, meaning, number, state_number}
 use Rattle.comparison_tables.proofs.Ending.{kind_ends}
 use Rattle.comparison_tables.proofs.Kinded.{numbered}
-use Rattle.comparison_tables.proofs.Knowing.{Knows, Stands, either_stands, is_known, none_known}
-use Rattle.comparison_tables.proofs.Moving.{label_own, label_copy, forth}
+use Rattle.comparison_tables.proofs.Knowing.{either_stands, is_known, none_known}
+use Rattle.comparison_tables.proofs.Moving.{label_own, forth}
 use Rattle.comparison_tables.proofs.Numbering.{named, named_states, numberless_is_dead, numberless_is_stuck}
 use Rattle.comparison_tables.proofs.Returning.{back as copy_back}
 use Rattle.comparison_tables.proofs.Undeclared.{is_dead, step_declared, end_declared, not_declared}
@@ -72,9 +68,9 @@ module _ (first second : Declarations) (sides : List Side) (cap : ℕ) (kf : IsK
   own_ends (Some e) i d = (
     (λ h. (e.1, d e refl, (accepts_by_test e.1 i).0 h)),
     (λ h.
-    let there : Some e.1 ≡ Some h.0 = sym (d e refl) ∙ h.1 in
-    let same : e.1 ≡ h.0 = cc in
-    (accepts_by_test e.1 i).1 (subst (λ (a : Content). Accepts a i) (sym same) h.2)),
+        let there : Some e.1 ≡ Some h.0 = sym (d e refl) ∙ h.1 in
+        let same : e.1 ≡ h.0 = cc in
+        (accepts_by_test e.1 i).1 (subst (λ (a : Content). Accepts a i) (sym same) h.2)),
   )
 
   own_forth : (o : Option Element) (i y t : ℕ) → ((e : Element) → o ≡ Some e → content_in first e.0 ≡ Some e.1) → Contains (own_steps first o i) (Some y, t)

@@ -1,21 +1,18 @@
 -- The rows of a solved comparison have its exact costs.
-use Rattle.std.proofs.Common.{◌≡◌, ◌≤◌, ◌<◌, ◌+◌, ℕ, zero, suc, ◌⊎◌, inl, inr, List, [], ◌∷◌, length, map, Bool, true, false, cond, find, Option, Some, None, slice_get, refl, sym, ap, ◌∙◌, subst, arith}
-use Rattle.std.specs.Prelude.{nat_lt, option_and_then, option_map, is_some}
+use Rattle.std.proofs.Common.{◌≡◌, ◌≤◌, ◌<◌, ◌+◌, ℕ, zero, suc, inl, inr, List, [], ◌∷◌, length, map, Bool, true, false, cond, find, Option, Some, None, slice_get, refl, sym, ap, ◌∙◌, subst, arith}
+use Rattle.std.specs.Prelude.{option_and_then, option_map}
 use Rattle.std.specs.List.{AllByRecursion}
 use Rattle.std.specs.Option.{option_map_or}
 use Rattle.std.proofs.lemmas.Bool.{lt-ltb, le-ltb, cases_lt}
-use Rattle.std.proofs.lemmas.Option.{slice_get_within}
 use Rattle.content_models.specs.declared.content.Content.{Content}
 use Rattle.content_models.specs.Model.{Chars}
 use Rattle.position_automata.specs.Automata.{states}
 use Rattle.decl_set.specs.Asked.{IsKept}
 use Rattle.decl_set.specs.Declarations.{Declarations, Element, content_in}
-use Rattle.model_inclusion.specs.Listed.{IsAscending}
 use Rattle.tagset_compare.specs.Live.{AreListed}
 use Rattle.tree_costs.specs.declared.cost.Cost.{Cost}
 use Rattle.tree_costs.specs.declared.cost.Cost.TheVariants.{Fin, Inf}
 use Rattle.tree_costs.specs.Costs.{IsSmall}
-use Rattle.tree_costs.specs.Graphs.{IsSolved}
 use Rattle.tree_costs.specs.Leasts.{place_of}
 use Rattle.tree_costs.specs.Numbered.{graph_of}
 use Rattle.tree_costs.proofs.Places.{has_place}
@@ -25,7 +22,7 @@ use Rattle.bound_checker.specs.declared.tables.StateRow.{StateRow}
 use Rattle.bound_checker.specs.declared.tables.PairRow.{PairRow}
 use Rattle.bound_checker.specs.declared.tables.Row.{Row}
 use Rattle.bound_checker.specs.declared.tables.Tables.{Tables}
-use Rattle.bound_checker.specs.Tabled.{Costs, costs_of, row_of, is_pair, IsPair, AreAscending, FitsRow, FitRows}
+use Rattle.bound_checker.specs.Tabled.{Costs, costs_of, row_of, is_pair, IsPair, FitsRow, FitRows}
 use Rattle.exact_tables.specs.Families.{IsListed, IsExact}
 use Rattle.exact_tables.specs.Comparing.{Elem, Plain, Copy, State, AreTables}
 use Rattle.exact_tables.specs.Comparing as to
@@ -33,13 +30,13 @@ use Rattle.exact_tables.proofs.NumberedTables.{numbered_is_exact}
 use Rattle.comparison_tables.specs.declared.sides.Side.{Side}
 use Rattle.comparison_tables.specs.Kinds.{wrong_number, pair_number}
 use Rattle.comparison_tables.specs.Outcome.{ListPairs, HaveExactCosts, states_of}
-use Rattle.comparison_tables.specs.Plans.{own_states, states_of_copy, is_own, known_of, plan_of, numbers_of}
-use Rattle.comparison_tables.specs.Rows.{cost_at, state_row, state_rows, pair_row, pair_rows, row_from, IsRowOf, AreRows}
-use Rattle.comparison_tables.specs.Sides.{ArePairsOf, AreSides, Known, known, known_at, is_at, pair_place}
-use Rattle.comparison_tables.specs.Standing.{label, state, number_in, copy_number, among_states, cost_by, state_cost_by}
+use Rattle.comparison_tables.specs.Plans.{own_states, states_of_copy, known_of, plan_of, numbers_of}
+use Rattle.comparison_tables.specs.Rows.{cost_at, state_rows, pair_rows, row_from, IsRowOf, AreRows}
+use Rattle.comparison_tables.specs.Sides.{ArePairsOf, AreSides, Known, known, is_at}
+use Rattle.comparison_tables.specs.Standing.{label, state, number_in, copy_number, cost_by, state_cost_by}
 use Rattle.comparison_tables.proofs.Carried.{numbers_stand, costs_are_carried}
-use Rattle.comparison_tables.proofs.Halves.{at_is, place_stands, some_found}
-use Rattle.comparison_tables.proofs.Knowing.{Knows, Stands, stands, is_known, stands_within, pairs_ascend, pair_listed, listed_place}
+use Rattle.comparison_tables.proofs.Halves.{place_stands, some_found}
+use Rattle.comparison_tables.proofs.Knowing.{Stands, stands, is_known, stands_within, pairs_ascend, pair_listed, listed_place}
 use Rattle.comparison_tables.proofs.Numbering.{place_stands_for}
 use Rattle.comparison_tables.proofs.Rowed.{states_count, state_at, state_past, states_all, find_none, find_some, pairs_all, rows_ascend, rows_states}
 use Rattle.comparison_tables.proofs.Small.{tree_small, path_small, leads_within}

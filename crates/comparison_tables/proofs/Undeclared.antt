@@ -1,9 +1,9 @@
 -- What the first set does not declare has no trees and no paths in the graph of a comparison.
-use Rattle.std.proofs.Common.{◌≡◌, ℕ, ◌⊎◌, inl, inr, List, [], ◌∷◌, Option, Some, None, refl, sym, ◌∙◌}
+use Rattle.std.proofs.Common.{◌≡◌, ℕ, inl, inr, [], ◌∷◌, Some, None, refl, sym, ◌∙◌}
 use Rattle.content_models.specs.declared.content.Content.{Content}
 use Rattle.content_models.specs.Model.{Chars}
 use Rattle.decl_set.specs.Declarations.{Declarations, content_in}
-use Rattle.tree_costs.specs.Graphs.{Graph, Forest, bare, tree, Grows, Path}
+use Rattle.tree_costs.specs.Graphs.{Graph, bare, tree}
 use Rattle.tree_costs.specs.Numbered.{IsDead, IsStuck}
 use Rattle.exact_tables.specs.Comparing.{Elem, Plain, Copy, name, State, Go, Fs, Gs, Start, start, accepts, step, comparison}
 

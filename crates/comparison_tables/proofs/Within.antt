@@ -1,7 +1,6 @@
 -- The plan of a comparison stays within its bounds.
 use Rattle.std.proofs.Common.{◌≡◌, ◌≤◌, ◌<◌, ◌+◌, ◌-◌, ℕ, zero, suc, ◌⊎◌, inl, inr, List, [], ◌∷◌, length, map, Bool, true, false, cond, Option, Some, None, slice_get, IsTrue, Contains, refl, sym, ap, ◌∙◌, subst, arith, true≢false}
-use Rattle.std.specs.Prelude.{nat_lt}
-use Rattle.std.specs.Option.{option_map, option_map_or}
+use Rattle.std.specs.Option.{option_map}
 use Rattle.std.proofs.lemmas.Bool.{ltb-true, ltb-false}
 use Rattle.std.proofs.lemmas.Option.{slice_get_within}
 use Rattle.attribute_types.proofs.TextTests.{on_test}
@@ -9,22 +8,22 @@ use Rattle.content_models.specs.declared.content.Content.{Content}
 use Rattle.content_models.specs.declared.content.Content.TheVariants.{Empty, Any, Mixed, Children}
 use Rattle.content_models.specs.Model.{Chars}
 use Rattle.position_automata.specs.Automata.{states}
-use Rattle.position_automata.specs.Stepping.{does_accept, step_on}
+use Rattle.position_automata.specs.Stepping.{step_on}
 use Rattle.position_automata.proofs.Meaning.{to_member}
 use Rattle.position_automata.proofs.Stepping.{accepts_by_test, accept_within, are_within}
 use Rattle.position_automata.proofs.Words.{Member, unmapped}
 use Rattle.decl_set.specs.Children.{child_step}
 use Rattle.decl_set.specs.Declarations.{Declarations, Element, content_in}
-use Rattle.decl_set.specs.Steps.{steps_in, steps_at}
+use Rattle.decl_set.specs.Steps.{steps_in}
 use Rattle.tree_costs.specs.Leasts.{place_of}
 use Rattle.tree_costs.proofs.Places.{stands_at}
 use Rattle.tree_costs.proofs.Steps.{follows_in}
-use Rattle.least_trees.specs.Plans.{Plan, Step, IsOn, IsState, IsWithin, IsPlan}
+use Rattle.least_trees.specs.Plans.{Plan, Step, IsOn, IsState, IsPlan}
 use Rattle.comparison_tables.specs.declared.kinds.Kind.{Kind}
 use Rattle.comparison_tables.specs.declared.kinds.Kind.TheVariants as kind
 use Rattle.comparison_tables.specs.declared.sides.Side.{Side}
 use Rattle.comparison_tables.specs.Sides.{FitSides, AreSides, Known, known, known_by, known_at, pair_place}
-use Rattle.comparison_tables.specs.Copies.{copy_states, kind_in, kind_accepts, copy_accepts, to_go, to_copy, to_wrong, to_listed, to_either, to_other, to_odd, pair_step, wrong_steps, start_steps, kind_steps, copy_steps}
+use Rattle.comparison_tables.specs.Copies.{copy_states, kind_in, kind_accepts, to_go, to_copy, to_wrong, to_listed, to_either, to_other, to_odd, pair_step, wrong_steps, start_steps, kind_steps}
 use Rattle.comparison_tables.specs.Plans.{own_states, own_accepts, own_steps, states_of_copy, copy_accepts_at, steps_of_copy, is_own, known_of, plan_of}
 use Rattle.comparison_tables.proofs.Halves.{place_stands}
 use Rattle.comparison_tables.proofs.Kinded.{IsNumber, numbered}

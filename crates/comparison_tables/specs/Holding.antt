@@ -1,7 +1,6 @@
 -- An element of the first set, with what is held of it.
 use Rattle.std.specs.Prelude.{◌≡◌, Some, slice_get}
 use Rattle.decl_set.specs.Asked.{IsKept}
-use Rattle.decl_set.specs.Declarations.{content_in}
 use Rattle.comparison_tables.specs.declared.held.Held.{Held}
 use Rattle.comparison_tables.specs.Shapes.{IsFine}
 use Rattle.comparison_tables.specs.Sides.{Known, known}

@@ -1,5 +1,5 @@
 -- What comes of asking for the exact tables of a comparison.
-use Rattle.std.specs.Prelude.{◌≡◌, ◌≤◌, ℕ, List, [], ◌∷◌, map, Option, Some, None, Result, Ok, Err}
+use Rattle.std.specs.Prelude.{◌≡◌, ◌≤◌, ℕ, List, [], ◌∷◌, map, Result, Ok, Err}
 use Rattle.content_models.specs.Model.{Chars}
 use Rattle.decl_set.specs.Declarations.{Declarations, Element, content_in}
 use Rattle.tagset_compare.specs.Reported.{SumsPairs, PassesAt}

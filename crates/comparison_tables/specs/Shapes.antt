@@ -1,7 +1,7 @@
 -- The shape of what is held of elements: whatever is known of it is known in one way, so that a graph may keep it.
-use Rattle.std.specs.Prelude.{◌≡◌, ◌≤◌, ◌<◌, ◌⊎◌, ℕ, List, [], ◌∷◌, length, Option, Some, None}
+use Rattle.std.specs.Prelude.{◌≤◌, ℕ, List, [], ◌∷◌, length, Option, Some, None}
 use Rattle.std.specs.Coded.{×_prop, Unit-prop, le_prop, Coded-set, coded_ℕ}
-use Rattle.std.specs.List.{AllByRecursion, AllByRecursion-prop}
+use Rattle.std.specs.List.{AllByRecursion-prop}
 use Rattle.std.proofs.Common.{inl, inr, ap, arith}
 use Rattle.decl_set.specs.Declarations.{Element}
 use Rattle.model_inclusion.specs.Listed.{Precedes, IsAscending}

@@ -1,24 +1,21 @@
 -- What the numbers of a comparison's plan stand for, and the costs that they give.
-use Rattle.std.specs.Prelude.{ℕ, zero, suc, ◌+◌, ◌-◌, List, [], length, nat_lt, Option, Some, None, option_and_then, option_map, slice_get, if◌then◌else◌}
+use Rattle.std.specs.Prelude.{ℕ, ◌+◌, ◌-◌, List, [], length, nat_lt, Option, Some, None, option_and_then, option_map, slice_get, if◌then◌else◌}
 use Rattle.std.specs.Option.{option_map_or}
 use Rattle.content_models.specs.Model.{Chars}
 use Rattle.position_automata.specs.Automata.{states}
-use Rattle.decl_set.specs.Asked.{IsKept}
 use Rattle.decl_set.specs.Declarations.{Declarations, Element}
 use Rattle.tree_costs.specs.declared.cost.Cost.{Cost}
 use Rattle.tree_costs.specs.declared.cost.Cost.TheVariants.{Inf}
-use Rattle.tree_costs.specs.Graphs.{IsSolved}
 use Rattle.tree_costs.specs.Leasts.{place_of}
-use Rattle.tree_costs.specs.Numbered.{StandsFor, AreCarried, graph_of}
 use Rattle.exact_tables.specs.Comparing.{Elem, Plain, Copy, State, comparison}
 use Rattle.exact_tables.specs.Comparing as to
 use Rattle.comparison_tables.specs.declared.kinds.Kind.{Kind}
 use Rattle.comparison_tables.specs.declared.kinds.Kind.TheVariants.{Start, Go, Wrong, Pair, Beyond}
 use Rattle.comparison_tables.specs.declared.sides.Side.{Side}
 use Rattle.comparison_tables.specs.Kinds.{go_number, wrong_number, pair_number}
-use Rattle.comparison_tables.specs.Sides.{Known, AreSides, known_at, pair_place}
+use Rattle.comparison_tables.specs.Sides.{Known, known_at, pair_place}
 use Rattle.comparison_tables.specs.Copies.{kind_in}
-use Rattle.comparison_tables.specs.Plans.{is_own, known_of, numbers_of}
+use Rattle.comparison_tables.specs.Plans.{is_own, known_of}
 
 -- the name of an element, and no name past the end
 abbrev pub name_in : Option Element → Chars

@@ -4,7 +4,6 @@ ghost use Rattle.std.specs.Prelude.{◌≡◌};
 ghost use Rattle.std.specs.Option.{option_copied};
 ghost use Rattle.comparison_tables.specs.Kinds as spec;
 
-
 /// What a state of a copy is for: the start; state i of the content for P; state i of the content for F; a listed pair of
 /// states for G; or none of them, past the last pair.
 #[derive(Clone, Copy, Debug, PartialEq, Eq)]

@@ -25,7 +25,12 @@ fn cost_at(costs: &CostList, i: usize) -> Cost
 }
 
 /// P and F of each state.
-fn state_rows(alloc: Global, states: u32, own: &CostList, copy: &CostList) -> Result<StateRows, NoMemory>
+fn state_rows(
+    alloc: Global,
+    states: u32,
+    own: &CostList,
+    copy: &CostList,
+) -> Result<StateRows, NoMemory>
     requires { states ≤ 1025 }
     ensures { IfOk result (λ rows. rows ≡ spec.state_rows states own.now copy.now states) }
 {
@@ -39,7 +44,12 @@ fn state_rows(alloc: Global, states: u32, own: &CostList, copy: &CostList) -> Re
 }
 
 /// G of each pair.
-fn pair_rows(alloc: Global, states: u32, pairs: &Pairs, copy: &CostList) -> Result<PairRows, NoMemory>
+fn pair_rows(
+    alloc: Global,
+    states: u32,
+    pairs: &Pairs,
+    copy: &CostList,
+) -> Result<PairRows, NoMemory>
     requires states { states ≤ 1025 }
     requires pairs { length pairs.now ≤ 2000000 }
     ensures { IfOk result (λ rows. rows ≡ spec.pair_rows states copy.now 0 pairs.now) }
@@ -103,7 +113,13 @@ pub(crate) fn rows_of(
     let mut rows = Rows::new(alloc);
     for (place, side) in sides.as_slice().iter().enumerate() {
         let states = states_at(first, place);
-        let row = row_from(alloc, states, &side.pairs, &settled[place], &settled[count + place])?;
+        let row = row_from(
+            alloc,
+            states,
+            &side.pairs,
+            &settled[place],
+            &settled[count + place],
+        )?;
         rows.push(row)?;
     }
     Ok(rows)

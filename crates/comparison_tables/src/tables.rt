@@ -18,12 +18,7 @@ use std::alloc::Global;
 use tagset_compare::live_names;
 
 /// What is held of each element, with the names that have documents found first.
-fn found(
-    alloc: Global,
-    first: &DeclSet,
-    second: &DeclSet,
-    cap: u32,
-) -> Result<Sides, TablesFault>
+fn found(alloc: Global, first: &DeclSet, second: &DeclSet, cap: u32) -> Result<Sides, TablesFault>
     requires { cap ≤ 100000 }
     ensures { FindsSides first.now second.now result }
 {

@@ -1,4 +1,3 @@
-use Rattle.std.proofs.Common.{sym}
 use Rattle.comparison_tables.proofs.Bounds.{element_is, element_has}
 use Rattle.comparison_tables.proofs.held.element_at.Goals as goal
 

@@ -1,4 +1,4 @@
-use Rattle.std.proofs.Common.{◌≡◌, ◌<◌, ◌+◌, length, Some, slice_get, arith, sym, ap, ◌∙◌, subst, refl}
+use Rattle.std.proofs.Common.{◌≡◌, ◌+◌, length, slice_get, arith, sym, ap, ◌∙◌, subst, refl}
 use Rattle.std.proofs.lemmas.Option.{slice_get_read}
 use Rattle.comparison_tables.specs.Rows.{AreRows}
 use Rattle.comparison_tables.proofs.Knowing.{as_many}

@@ -1,4 +1,4 @@
-use Rattle.std.proofs.Common.{◌≡◌, ◌++◌, ◌-◌, List, [], ◌∷◌, length, Some, slice_get, arith, sym, ap, ◌∙◌, subst}
+use Rattle.std.proofs.Common.{◌++◌, ◌-◌, List, [], ◌∷◌, length, slice_get, arith, sym, ap, ◌∙◌, subst}
 use Rattle.std.proofs.lemmas.Option.{slice_get_within}
 use Rattle.comparison_tables.specs.declared.sides.Side.{Side}
 use Rattle.comparison_tables.specs.Finding.{AreFound}

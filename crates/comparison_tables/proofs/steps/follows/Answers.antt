@@ -1,5 +1,4 @@
 use Rattle.std.proofs.Common.{arith}
-use Rattle.std.proofs.lemmas.Bool.{ltb-false}
 use Rattle.comparison_tables.proofs.Outside.{none_steps}
 use Rattle.comparison_tables.proofs.steps.follows.Goals as goal
 

@@ -1,4 +1,4 @@
-use Rattle.std.proofs.Common.{◌≡◌, ◌<◌, ◌+◌, List, length, IfOk, arith, sym, ap, ◌∙◌, subst}
+use Rattle.std.proofs.Common.{List, length, arith, sym, ap, ◌∙◌, subst}
 use Rattle.tree_costs.specs.declared.cost.Cost.{Cost}
 use Rattle.least_trees.specs.Plans.{steps_in, states_in}
 use Rattle.least_trees.specs.Rows.{IsSettled}
