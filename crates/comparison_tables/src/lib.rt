@@ -24,6 +24,8 @@ mod rows;
 mod sides;
 mod steps;
 mod tables;
+#[cfg(test)]
+mod tests;
 
 pub use fault::TablesFault;
 pub use laws::graph_law;
