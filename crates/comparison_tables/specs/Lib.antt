@@ -1,0 +1,12 @@
+pub mod Kinds
+pub mod Sides
+pub mod Shapes
+pub mod Places
+pub mod Finding
+pub mod Holding
+pub mod Copies
+pub mod Plans
+pub mod Standing
+pub mod Rows
+pub mod Outcome
+pub mod Laws
