@@ -14,9 +14,7 @@ use crate::commands::flatten::flatten_words;
 use crate::commands::least::least_words;
 use crate::commands::report::report_words;
 use crate::commands::validate::validate_words;
-use crate::words::{
-    is_check, is_compare, is_fill, is_flatten, is_least, is_report, is_validate,
-};
+use crate::words::{is_check, is_compare, is_fill, is_flatten, is_least, is_report, is_validate};
 use jats_chars::Text;
 use jats_io::{Sink, Store, write_all};
 use std::alloc::Global;
