@@ -85,7 +85,7 @@ def compared(name, first, second, root, lines, useful):
     else:
         output = "subset\ndocuments " + ("some\n" if useful else "none\n")
     files = {"m.dtd": first, "n.dtd": second}
-    return Row("compared: " + name, files, f"compare - m.dtd - n.dtd {root} 0", 1 if lines else 0, output)
+    return Row("compared as reported: " + name, files, f"compare - m.dtd - n.dtd {root} 0", 1 if lines else 0, output)
 
 
 def many(elements, names):
@@ -107,7 +107,7 @@ def slow_rows():
     two = {"m.dtd": many("xy", 1023), "n.dtd": many("xy", 1024)}
     return [
         Row("report: 1,047,553 pairs", one, "report - m.dtd - n.dtd x", 1, differs("x content", useful=2)),
-        Row("compared: 1,047,553 pairs", one, "compare - m.dtd - n.dtd x 0", 1, "not subset\nabove 0\nbroken x content\n"),
-        Row("compared: twice as many pairs", two, "compare - m.dtd - n.dtd x 0", 2, "refused E45 PairsOver - 0 y\n"),
+        Row("compared as reported: 1,047,553 pairs", one, "compare - m.dtd - n.dtd x 0", 1, "not subset\nabove 0\nbroken x content\n"),
+        Row("compared as reported: twice as many pairs", two, "compare - m.dtd - n.dtd x 0", 2, "refused E45 PairsOver - 0 y\n"),
         Row("report: twice as many pairs", two, "report - m.dtd - n.dtd x", 2, "refused E45 PairsOver - 0 y\n"),
     ]
