@@ -1,4 +1,4 @@
-"""The table: rows by subject."""
+"""The table: rows by subject. Those of `verify` wait for the command that they are about."""
 
 from . import (articles, attributes, catalogs, comparison, contents, entities, expansion, faults, flat_texts,
                forms, least, limits, modules, report, sections, validity, waiting)
