@@ -55,6 +55,9 @@ expect 2 'refused E10 ModuleAbsent no.xml 0' fill "${of_house[@]}" no.xml
 expect 0 'least 10
 <article><front><journal><journal-id type="issn"/></journal><title/><author><surname/></author><abstract><p/></abstract></front><body/></article>' least $house/catalog.txt $house/house.dtd article 100
 expect 0 'above 9' least $house/catalog.txt $house/house.dtd article 9
+expect 0 'certified subset' verify examples/subset.txt - examples/second.dtd - examples/first.dtd
+expect 0 'certified at least 3' verify examples/not-subset.txt - examples/first.dtd - examples/second.dtd
+expect 2 'refused E70 CertMalformed examples/not-subset.txt 26' verify examples/not-subset.txt - examples/second.dtd - examples/first.dtd
 ./tagset compare - examples/first.dtd - examples/second.dtd r 0 > /dev/full 2>/dev/null
 if [ $? -eq 5 ]; then passed=$((passed + 1)); else failed=$((failed + 1)); echo "failed: a full device is not status 5"; fi
 echo "$passed passed, $failed failed"

@@ -1,10 +1,10 @@
-"""The table: rows by subject. Those of `verify` wait for the command that they are about."""
+"""The table: rows by subject."""
 
 from . import (articles, attributes, catalogs, comparison, contents, entities, expansion, faults, flat_texts,
-               forms, least, limits, modules, report, sections, validity, waiting)
+               forms, least, limits, modules, report, sections, validity, verify, waiting)
 
 SUBJECTS = (entities, expansion, waiting, sections, modules, catalogs, forms, contents, attributes, faults,
-            limits, flat_texts, comparison, articles, validity, report, least)
+            limits, flat_texts, comparison, articles, validity, report, least, verify)
 
 # These have rows that go to limits of many millions of characters, and take a second or more each.
 SLOW = (expansion, limits, articles, validity, report, least)

@@ -1,5 +1,5 @@
 -- What words ask for.
-use Rattle.std.proofs.Common.{◌≡◌, ◌∙◌, ◌==◌, ◌&&◌, ℕ, ◌<◌, true, List, [], get_or, Some, None, Ok, Err, IfOk, IfSome, sym, subst, length, bytes_eq, codes}
+use Rattle.std.proofs.Common.{◌≡◌, ◌∙◌, ◌==◌, ◌&&◌, ℕ, ◌<◌, true, List, [], get_or, Some, None, Ok, Err, IfOk, IfSome, ap, refl, sym, subst, length, bytes_eq, codes}
 use Rattle.std.specs.Prelude.{Option, Result, is_some}
 use Rattle.std.proofs.lemmas.List.{get_or_default}
 use Rattle.std.proofs.lemmas.Bool.{and_parts, eqb-true}
@@ -17,7 +17,7 @@ use Rattle.tagset_tool.specs.declared.answer.Stop.{Stop}
 use Rattle.tagset_tool.specs.declared.answer.Stop.TheVariants as stop
 use Rattle.tagset_tool.specs.Outcomes.{Outcome, after}
 use Rattle.tagset_tool.specs.Runs.{StopsAs}
-use Rattle.tagset_tool.specs.Words.{SetWords, word, set_by, cap_in, is_compare, is_fill, is_least, is_report, is_validate}
+use Rattle.tagset_tool.specs.Words.{SetWords, word, both_by, set_by, cap_in, is_compare, is_fill, is_least, is_report, is_validate, is_verify}
 
 -- what a place of the words has
 pub word_at : (words : List (List ℕ)) (i : ℕ) (x : List ℕ) → i < length words → x ≡ get_or words i x → x ≡ word words i
@@ -30,6 +30,10 @@ seven_words words t = eqb-true (length words) 7 (and_parts (length words == 7) (
 -- words of a report are six
 pub six_words : (words : List (List ℕ)) → is_report words ≡ true → length words ≡ 6
 six_words words t = eqb-true (length words) 6 (and_parts (length words == 6) (bytes_eq (word words 0) (codes "report")) t).0
+
+-- and so are those of `verify`
+pub six_verified : (words : List (List ℕ)) → is_verify words ≡ true → length words ≡ 6
+six_verified words t = eqb-true (length words) 6 (and_parts (length words == 6) (bytes_eq (word words 0) (codes "verify")) t).0
 
 -- words for a least article are five
 pub five_least : (words : List (List ℕ)) → is_least words ≡ true → length words ≡ 5
@@ -110,3 +114,11 @@ pub told_one : {X : Type 0} → (holds : Option Files) (read : Files → Result 
     → IfSome holds (λ files. after (read files) next status bytes)
 told_one None read next x status bytes reads over = tt
 told_one (Some files) read next x status bytes reads over = subst (λ r. after r next status bytes) (sym reads) over
+
+-- and where more is done over what was read
+pub told_on : {X : Type 0} → (holds now : Option Files) (read : Files → Result X Fault) (next : Files → X → Outcome) (x : X) (result : Result Answer Stop) → now ≡ holds → IfSome holds (λ files. Reads (read files) (Ok x))
+    → IfSome now (λ files. IfOk result (λ a. next files x a.status a.bytes.items)) → IfSome holds (λ files. IfOk result (λ a. after (read files) (next files) a.status a.bytes.items))
+told_on None now read next x result same reads over = tt
+told_on (Some files) now read next x result same reads over =
+    let here = subst (λ o. IfSome o (λ files. IfOk result (λ a. next files x a.status a.bytes.items))) same over in
+    subst (λ r. IfOk result (λ a. after r (next files) a.status a.bytes.items)) (sym reads) here

@@ -8,7 +8,9 @@ use Rattle.decl_set.specs.Declarations.{Declarations, content_in, attributes_in}
 use Rattle.decl_set.specs.declared.breaks.Cause.{Cause}
 use Rattle.decl_set.specs.Breaks.{BothBreak, OddBreaks, IsKept, IsFirstBroken, Breaks, BreaksBy}
 use Rattle.dtd_flattener.specs.Flat.{flat_text}
-use Rattle.module_reader.specs.Sources.{Files}
+use Rattle.module_reader.specs.Sources.{Files, file_text}
+use Rattle.bound_checker.specs.Certificates.{read_lines}
+use Rattle.bound_checker.specs.Lines.{lines_of}
 use Rattle.document_trees.specs.Trees.{Node}
 use Rattle.dtd_scanner.specs.Walk.{◌>>=◌}
 use Rattle.entity_catalog.specs.Named.{Named}
@@ -23,6 +25,11 @@ use Rattle.tree_costs.specs.Leasts.{m_of}
 use Rattle.tree_costs.proofs.Unique.{one_least}
 use Rattle.separating_article.proofs.Trees.{one_least_article}
 use Rattle.tagset_tool.specs.commands.Least.{above_line, by_costs, by_size, least_from, least_in, least_text, leasts, none_line, sized}
+use Rattle.bound_checker.specs.Tabled.{costs_of}
+use Rattle.bound_checker.specs.Tests.{first_broken}
+use Rattle.bound_checker.specs.declared.check.Broken.{Broken}
+use Rattle.bound_checker.specs.declared.tables.Tables.{Tables}
+use Rattle.tagset_tool.specs.commands.Verify.{broken_words, certified, checked, claim, most_certified, verifies, verifies_by}
 use Rattle.tagset_tool.specs.Verdicts.{Verdict, Subset, Above, IsVerdict}
 use Rattle.decl_set.specs.Validity.{HasDocument}
 use Rattle.tagset_compare.specs.Reported.{PassesAt}
@@ -34,8 +41,8 @@ use Rattle.tagset_tool.specs.commands.Report.{reports, reported, telling, report
 use Rattle.tagset_tool.specs.Counts.{count_lines}
 use Rattle.tagset_tool.specs.Outcomes.{IsUnique, Outcome, after, answering, fitting, refusing}
 use Rattle.tagset_tool.specs.Output.{IsOutput, outcome_of, usage_line}
-use Rattle.tagset_tool.specs.Refusals.{pairs_over, root_undeclared}
-use Rattle.tagset_tool.specs.Words.{Asked, SetWords, check, flatten, validate, fill, compare, report, least, asked, set_by}
+use Rattle.tagset_tool.specs.Refusals.{cert_malformed, pairs_over, root_undeclared}
+use Rattle.tagset_tool.specs.Words.{Asked, SetWords, check, flatten, validate, fill, compare, report, least, verify, asked, both_by, set_by}
 use Rattle.article_files.specs.Bytes.{article_in}
 use Rattle.article_validator.specs.Faults.{fault_list}
 use Rattle.article_validator.specs.declared.fault.Invalid.{Invalid}
@@ -159,6 +166,21 @@ fills_unique files words article =
     after_unique (set_by files words) (λ set. after (article_in files set.entities article) (λ node. fitting 0 (filled_text set node)))
     (λ set. after_unique (article_in files set.entities article) (λ node. fitting 0 (filled_text set node)) (λ node. fitting_unique 0 (filled_text set node)))
 
+checked_unique : (first : Declarations) (tables : Tables) (o : Option Broken) → IsUnique (checked first tables o)
+checked_unique first tables None = answering_unique 0 (claim ((costs_of first tables).v tables.root))
+checked_unique first tables (Some broken) = answering_unique 1 (broken_words first broken)
+
+certified_unique : (first second : Declarations) (name : List ℕ) (read : Result Tables ℕ) → IsUnique (certified first second name read)
+certified_unique first second name (Err line) = refusing_unique (cert_malformed name line)
+certified_unique first second name (Ok tables) = checked_unique first tables (first_broken first second tables)
+
+verified_unique : (files : Files) (name : List ℕ) (first second : Declarations) → IsUnique (verifies_by files name first second)
+verified_unique files name first second =
+    after_unique (file_text most_certified files name) (λ text. certified first second name (read_lines first second (lines_of text))) (λ text. certified_unique first second name (read_lines first second (lines_of text)))
+
+verifies_unique : (files : Files) (name : List ℕ) (one other : SetWords) → IsUnique (verifies files name one other)
+verifies_unique files name one other = after_unique (both_by files one other) (λ sets. verifies_by files name sets.0 sets.1) (λ sets. verified_unique files name sets.0 sets.1)
+
 -- ---- least articles
 
 sized_unique : (set : Declarations) (table : Least) (root : List ℕ) (n : ℕ) (within : Bool) → IsUnique (sized set table root n within)
@@ -204,6 +226,7 @@ outcome_unique (Some (fill words article)) files = fills_unique files words arti
 outcome_unique (Some (compare first second root)) files = compares_unique files first second root
 outcome_unique (Some (report first second root)) files = reports_unique files first second root
 outcome_unique (Some (least words root cap)) files = leasts_unique files words root cap
+outcome_unique (Some (verify certificate first second)) files = verifies_unique files certificate first second
 
 pub one_output : (words : List (List ℕ)) (files : Files) → IsUnique (IsOutput words files)
 one_output words files = outcome_unique (asked words) files

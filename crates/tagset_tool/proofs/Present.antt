@@ -17,6 +17,11 @@ use Rattle.tree_costs.specs.declared.cost.Cost.TheVariants.{Fin, Inf}
 use Rattle.tree_costs.specs.declared.least.Least.{Least}
 use Rattle.tree_costs.specs.Leasts.{m_of}
 use Rattle.tagset_tool.specs.commands.Least.{above_line, by_size, least_from, least_in, least_text, none_line, sized}
+use Rattle.bound_checker.specs.Tabled.{costs_of}
+use Rattle.bound_checker.specs.Tests.{first_broken}
+use Rattle.bound_checker.specs.declared.check.Broken.{Broken}
+use Rattle.bound_checker.specs.declared.tables.Tables.{Tables}
+use Rattle.tagset_tool.specs.commands.Verify.{broken_words, certified, checked, claim}
 use Rattle.tagset_tool.specs.commands.Fill.{filled_text}
 use Rattle.tagset_tool.specs.commands.Validate.{judged, fault_lines, valid_line}
 use Rattle.tagset_tool.specs.Verdicts.{Verdict, Subset, Above}
@@ -28,7 +33,7 @@ use Rattle.tagset_tool.specs.commands.Report.{count_line, differs_line, report_l
 use Rattle.tagset_tool.specs.Counts.{count_lines}
 use Rattle.tagset_tool.specs.Outcomes.{answering, fitting, fitting_by, most_written}
 use Rattle.tagset_tool.specs.commands.Compare.{from_root, over_sets, verdict_lines}
-use Rattle.tagset_tool.specs.Refusals.{pairs_over, root_undeclared, output_over}
+use Rattle.tagset_tool.specs.Refusals.{cert_malformed, pairs_over, root_undeclared, output_over}
 use Rattle.tagset_tool.specs.Runs.{is_absence}
 use Rattle.tagset_tool.proofs.Heads.{absence_number}
 
@@ -146,6 +151,24 @@ telling_present root (Err NoMemory) status bytes over = absurd over
 -- nor is a report
 pub reported_present : (first second : Declarations) (root : List ℕ) (status : ℕ) (bytes : List ℕ) → reported first second root status bytes → IsPresent bytes
 reported_present first second root status bytes over = telling_present root over.0 status bytes over.2
+
+-- ---- certificates
+
+malformed_present : (name : List ℕ) (line : ℕ) → IsPresent (line_of (cert_malformed name line))
+malformed_present name line t = absurd (let off : 70 ≡ 10 = absence_number (cert_malformed name line) (lit< tt) t in omega arith)
+
+claim_present : (c : Cost) → IsPresent (claim c)
+claim_present Inf t = let off : IsTrue false = t in cc
+claim_present (Fin n) t = let off : IsTrue false = t in cc
+
+checked_present : (first : Declarations) (tables : Tables) (o : Option Broken) (status : ℕ) (bytes : List ℕ) → checked first tables o status bytes → IsPresent bytes
+checked_present first tables None status bytes over = same_present bytes (claim ((costs_of first tables).v tables.root)) over.1 (claim_present ((costs_of first tables).v tables.root))
+checked_present first tables (Some broken) status bytes over = same_present bytes (broken_words first broken) over.1 (λ t. let off : IsTrue false = t in cc)
+
+-- nor is what is said of a certificate
+pub certified_present : (first second : Declarations) (name : List ℕ) (read : Result Tables ℕ) (status : ℕ) (bytes : List ℕ) → certified first second name read status bytes → IsPresent bytes
+certified_present first second name (Err line) status bytes over = same_present bytes (line_of (cert_malformed name line)) over.1 (malformed_present name line)
+certified_present first second name (Ok tables) status bytes over = checked_present first tables (first_broken first second tables) status bytes over
 
 -- ---- least articles
 

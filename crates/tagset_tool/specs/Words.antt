@@ -1,6 +1,7 @@
 -- What words ask for.
-use Rattle.std.specs.Prelude.{ℕ, ◌+◌, Bool, ◌==◌, ◌&&◌, List, [], length, Option, Some, None, Result, bytes_eq, codes, is_some, nat_le, option_and_then, slice_index_or, if◌then◌else◌}
+use Rattle.std.specs.Prelude.{ℕ, ◌+◌, Bool, ◌==◌, ◌&&◌, List, [], length, Option, Some, None, Result, Ok, bytes_eq, codes, is_some, nat_le, option_and_then, slice_index_or, if◌then◌else◌}
 use Rattle.std.specs.Option.{option_map_or}
+use Rattle.dtd_scanner.specs.Walk.{◌>>=◌}
 use Rattle.jats_fault.specs.declared.fault.Fault.{Fault}
 use Rattle.bound_checker.specs.Spelled.{short_number_in}
 use Rattle.decl_set.specs.Declarations.{Declarations}
@@ -21,6 +22,7 @@ pub data Asked : Type 0 where
   compare : (first second : SetWords) (root : List ℕ) → Asked
   report : (first second : SetWords) (root : List ℕ) → Asked
   least : SetWords → (root : List ℕ) (cap : ℕ) → Asked
+  verify : (certificate : List ℕ) (first second : SetWords) → Asked
 
 abbrev pub word : List (List ℕ) → ℕ → List ℕ
 word words k = slice_index_or words k []
@@ -68,6 +70,10 @@ cap_or_0 word = option_map_or (λ n. n) (cap_in word) 0
 abbrev pub is_least : List (List ℕ) → Bool
 is_least words = length words == 5 && (bytes_eq (word words 0) (codes "least") && is_some (cap_in (word words 4)))
 
+-- verify CERT CATALOG1 FIRST CATALOG2 SECOND
+abbrev pub is_verify : List (List ℕ) → Bool
+is_verify words = length words == 6 && bytes_eq (word words 0) (codes "verify")
+
 abbrev pub asked : List (List ℕ) → Option Asked
 asked words =
     if is_check words then Some (check (set_words words 1))
@@ -77,8 +83,13 @@ asked words =
     else if is_compare words then Some (compare (set_words words 1) (set_words words 3) (word words 5))
     else if is_report words then Some (report (set_words words 1) (set_words words 3) (word words 5))
     else if is_least words then Some (least (set_words words 1) (word words 3) (cap_or_0 (word words 4)))
+    else if is_verify words then Some (verify (word words 1) (set_words words 2) (set_words words 4))
     else None
 
 -- the set that words name, or the first refusal
 abbrev pub set_by : Files → SetWords → Result Declarations Fault
 set_by files words = set_of files words.catalog words.entry
+
+-- two sets, the one after the other
+abbrev pub both_by : Files → SetWords → SetWords → Result (Declarations × Declarations) Fault
+both_by files one other = set_by files one >>= λ first. set_by files other >>= λ second. Ok (first, second)

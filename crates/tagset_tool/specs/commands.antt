@@ -5,3 +5,4 @@ pub mod Flatten
 pub mod Least
 pub mod Report
 pub mod Validate
+pub mod Verify

@@ -7,3 +7,4 @@ pub mod flatten;
 pub mod least;
 pub mod report;
 pub mod validate;
+pub mod verify;

@@ -58,6 +58,21 @@ pub fn pairs_over(alloc: Global, name: &Name) -> Result<Fault, NoMemory>
     })
 }
 
+/// A line of a certificate that is not as needed.
+pub fn cert_malformed(alloc: Global, name: &Text, line: u64) -> Result<Fault, NoMemory>
+    ensures { IfOk result (λ f. f ≡ spec.cert_malformed name.now line) }
+{
+    let module = name.copy(alloc)?;
+    Ok(Fault {
+        number: numbers::CERT_MALFORMED,
+        place: Place {
+            module,
+            offset: line,
+        },
+        details: Details::new(alloc),
+    })
+}
+
 /// An output that is longer than an output may be.
 pub fn output_over(alloc: Global) -> Result<Fault, NoMemory>
     ensures { IfOk result (λ f. f ≡ spec.output_over) }

@@ -14,7 +14,10 @@ use crate::commands::flatten::flatten_words;
 use crate::commands::least::least_words;
 use crate::commands::report::report_words;
 use crate::commands::validate::validate_words;
-use crate::words::{is_check, is_compare, is_fill, is_flatten, is_least, is_report, is_validate};
+use crate::commands::verify::verify_words;
+use crate::words::{
+    is_check, is_compare, is_fill, is_flatten, is_least, is_report, is_validate, is_verify,
+};
 use jats_chars::Text;
 use jats_io::{Sink, Store, write_all};
 use std::alloc::Global;
@@ -53,6 +56,8 @@ fn answer_to<S: Store>(alloc: Global, words: &[Text], store: &mut S) -> Result<A
         report_words(alloc, words, store)
     } else if is_least(words) {
         least_words(alloc, words, store)
+    } else if is_verify(words) {
+        verify_words(alloc, words, store)
     } else {
         usage(alloc)
     }

@@ -95,6 +95,13 @@ pub fn is_least(words: &[Text]) -> bool
         && cap_of(&words[4]).is_some()
 }
 
+/// Whether the words ask to verify a certificate.
+pub fn is_verify(words: &[Text]) -> bool
+    ensures { result ≡ spec.is_verify words.now }
+{
+    words.len() == 6 && is_word(&words[0], &['v', 'e', 'r', 'i', 'f', 'y'])
+}
+
 /// The file of a catalog; `-` names none.
 fn catalog_word(word: &Text) -> Option<&Text>
     ensures { option_copied result ≡ spec.catalog_word word.now }
@@ -142,4 +149,30 @@ pub fn read_words<S: Store>(
 {
     let catalog = catalog_word(&words[at]);
     read_named(alloc, store, catalog, &words[at + 1])
+}
+
+/// The sets that the words at two places name, the one after the other.
+pub fn read_both<S: Store>(
+    alloc: Global,
+    store: &mut S,
+    words: &[Text],
+    first: usize,
+    second: usize,
+) -> Result<(DeclSet, DeclSet), ReadFault>
+    requires first { first + 1 < length words.now }
+    requires second { second + 1 < length words.now }
+    ensures keeps { S.holds store.new ≡ S.holds store.old }
+    ensures faults { HasCause (S.faults store.old) (S.faults store.new) (LoadFailed result) }
+    ensures absences { HasCause (S.absences store.old) (S.absences store.new) (IsAbsence result) }
+    ensures numbered { IsNumbered result }
+    ensures told { IfSome (S.holds store.old) (λ files. Reads (spec.both_by files (spec.set_words words.now first) (spec.set_words words.now second)) result) }
+{
+    let one = match read_words(alloc, store, words, first) {
+        Ok(set) => set,
+        Err(fault) => return Err(fault),
+    };
+    match read_words(alloc, store, words, second) {
+        Ok(other) => Ok((one, other)),
+        Err(fault) => Err(fault),
+    }
 }
