@@ -7,9 +7,9 @@ use Rattle.decl_set.specs.Declarations.{Declarations, Element, content_in}
 use Rattle.decl_set.specs.Oddness.{odd_in}
 use Rattle.model_inclusion.specs.declared.fault.PairFault.TheVariants as pair
 use Rattle.model_inclusion.specs.Listed.{ListsPairs}
-use Rattle.tagset_compare.specs.Live.{AreLive}
-use Rattle.tagset_compare.specs.Reported.{CountsPairs, SumsPairs, PassesAt}
-use Rattle.tagset_compare.proofs.Judging.{are_listed}
+use Rattle.tagset_report.specs.Live.{AreLive}
+use Rattle.tagset_report.specs.Reported.{CountsPairs, SumsPairs, PassesAt}
+use Rattle.tagset_report.proofs.Judging.{are_listed}
 use Rattle.comparison_tables.specs.declared.sides.Side.{Side}
 use Rattle.comparison_tables.specs.declared.fault.TablesFault.{TablesFault}
 use Rattle.comparison_tables.specs.declared.fault.TablesFault.TheVariants as fault

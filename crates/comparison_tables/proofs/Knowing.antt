@@ -12,7 +12,7 @@ use Rattle.position_automata.proofs.Meaning.{to_member, contains_of}
 use Rattle.tree_costs.specs.Leasts.{place_of}
 use Rattle.tree_costs.proofs.Places.{is_at}
 use Rattle.tree_costs.proofs.Steps.{got_member}
-use Rattle.tagset_compare.specs.Live.{IsListed, AreListed}
+use Rattle.tagset_report.specs.Live.{IsListed, AreListed}
 use Rattle.comparison_tables.specs.declared.sides.Side.{Side}
 use Rattle.comparison_tables.specs.Shapes.{IsFine, AreFine}
 use Rattle.comparison_tables.specs.Sides.{ArePairsOf, IsSide, FitSides, AreSides, Known, known, known_by, known_at, pair_place}

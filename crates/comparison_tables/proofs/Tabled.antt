@@ -9,7 +9,7 @@ use Rattle.content_models.specs.Model.{Chars}
 use Rattle.position_automata.specs.Automata.{states}
 use Rattle.decl_set.specs.Asked.{IsKept}
 use Rattle.decl_set.specs.Declarations.{Declarations, Element, content_in}
-use Rattle.tagset_compare.specs.Live.{AreListed}
+use Rattle.tagset_report.specs.Live.{AreListed}
 use Rattle.tree_costs.specs.declared.cost.Cost.{Cost}
 use Rattle.tree_costs.specs.declared.cost.Cost.TheVariants.{Fin, Inf}
 use Rattle.tree_costs.specs.Costs.{IsSmall}

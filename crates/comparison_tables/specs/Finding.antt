@@ -3,7 +3,7 @@ use Rattle.std.specs.Prelude.{◌≡◌, ◌≤◌, ◌<◌, ◌+◌, ℕ, List,
 use Rattle.content_models.specs.declared.content.Content.{Content}
 use Rattle.content_models.specs.Model.{Chars}
 use Rattle.decl_set.specs.Declarations.{Declarations, content_in}
-use Rattle.tagset_compare.specs.Reported.{CountsPairs, SumsPairs, PassesAt}
+use Rattle.tagset_report.specs.Reported.{CountsPairs, SumsPairs, PassesAt}
 use Rattle.comparison_tables.specs.declared.fault.TablesFault.{TablesFault}
 use Rattle.comparison_tables.specs.declared.fault.TablesFault.TheVariants.{PairsOver, NoMemory}
 use Rattle.comparison_tables.specs.declared.sides.Side.{Side}

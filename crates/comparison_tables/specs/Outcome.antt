@@ -2,7 +2,7 @@
 use Rattle.std.specs.Prelude.{◌≡◌, ◌≤◌, ℕ, List, [], ◌∷◌, map, Result, Ok, Err}
 use Rattle.content_models.specs.Model.{Chars}
 use Rattle.decl_set.specs.Declarations.{Declarations, Element, content_in}
-use Rattle.tagset_compare.specs.Reported.{SumsPairs, PassesAt}
+use Rattle.tagset_report.specs.Reported.{SumsPairs, PassesAt}
 use Rattle.bound_checker.specs.declared.tables.PairRow.{PairRow}
 use Rattle.bound_checker.specs.declared.tables.Row.{Row}
 use Rattle.bound_checker.specs.declared.tables.Tables.{Tables}

@@ -3,7 +3,7 @@ use Rattle.std.specs.Prelude.{◌≡◌, ◌≤◌, ℕ, Bool, ◌==◌, ◌&&�
 use Rattle.content_models.specs.declared.content.Content.{Content}
 use Rattle.decl_set.specs.Declarations.{Declarations, Element, content_in}
 use Rattle.decl_set.specs.Oddness.{odd_in}
-use Rattle.tagset_compare.specs.Live.{AreListed}
+use Rattle.tagset_report.specs.Live.{AreListed}
 use Rattle.comparison_tables.specs.declared.sides.Side.{Side}
 
 -- the listed pairs of two contents, and none where there is no second

@@ -2,7 +2,7 @@
 
 ghost use Rattle.std.specs.Prelude.{◌≡◌, ◌≤◌, IfOk};
 ghost use Rattle.model_inclusion.specs.Listed.{ListsPairs};
-ghost use Rattle.tagset_compare.specs.Live.{AreLive};
+ghost use Rattle.tagset_report.specs.Live.{AreLive};
 ghost use Rattle.comparison_tables.specs.Finding.{FindsSide, FindsSides};
 
 use crate::fault::TablesFault;

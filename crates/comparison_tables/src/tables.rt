@@ -15,7 +15,7 @@ use decl_set::DeclSet;
 use jats_chars::{Name, NoMemory};
 use least_trees::{least, least_counted};
 use std::alloc::Global;
-use tagset_compare::live_names;
+use tagset_report::live_names;
 
 /// What is held of each element, with the names that have documents found first.
 fn found(alloc: Global, first: &DeclSet, second: &DeclSet, cap: u32) -> Result<Sides, TablesFault>

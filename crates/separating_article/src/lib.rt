@@ -15,10 +15,12 @@ mod growing;
 mod laws;
 mod least;
 mod required;
+mod separating;
 mod spending;
 #[cfg(test)]
 mod tests;
 
 pub use fault::BuildOver;
-pub use laws::{least_law, size_law};
+pub use laws::{least_law, separating_law, size_law};
 pub use least::{least_article, least_size};
+pub use separating::separating;

@@ -32,11 +32,11 @@ use Rattle.bound_checker.specs.declared.tables.Tables.{Tables}
 use Rattle.tagset_tool.specs.commands.Verify.{broken_words, certified, checked, claim, most_certified, verifies, verifies_by}
 use Rattle.tagset_tool.specs.Verdicts.{Verdict, Subset, Above, IsVerdict}
 use Rattle.decl_set.specs.Validity.{HasDocument}
-use Rattle.tagset_compare.specs.Reported.{PassesAt}
-use Rattle.tagset_compare.specs.declared.fault.ReportFault.{ReportFault}
-use Rattle.tagset_compare.specs.declared.fault.ReportFault.TheVariants.{RootUndeclared, PairsOver, NoMemory}
-use Rattle.tagset_compare.specs.declared.outcome.Report.{Report}
-use Rattle.tagset_compare.proofs.Once.{one_report}
+use Rattle.tagset_report.specs.Reported.{PassesAt}
+use Rattle.tagset_report.specs.declared.fault.ReportFault.{ReportFault}
+use Rattle.tagset_report.specs.declared.fault.ReportFault.TheVariants.{RootUndeclared, PairsOver, NoMemory}
+use Rattle.tagset_report.specs.declared.outcome.Report.{Report}
+use Rattle.tagset_report.proofs.Once.{one_report}
 use Rattle.tagset_tool.specs.commands.Report.{reports, reported, telling, report_lines, report_status}
 use Rattle.tagset_tool.specs.Counts.{count_lines}
 use Rattle.tagset_tool.specs.Outcomes.{IsUnique, Outcome, after, answering, fitting, refusing}

@@ -26,9 +26,9 @@ use Rattle.tagset_tool.specs.commands.Fill.{filled_text}
 use Rattle.tagset_tool.specs.commands.Validate.{judged, fault_lines, valid_line}
 use Rattle.tagset_tool.specs.Verdicts.{Verdict, Subset, Above}
 use Rattle.decl_set.specs.declared.breaks.BrokenDecl.{BrokenDecl}
-use Rattle.tagset_compare.specs.declared.fault.ReportFault.{ReportFault}
-use Rattle.tagset_compare.specs.declared.fault.ReportFault.TheVariants.{RootUndeclared, PairsOver, NoMemory}
-use Rattle.tagset_compare.specs.declared.outcome.Report.{Report}
+use Rattle.tagset_report.specs.declared.fault.ReportFault.{ReportFault}
+use Rattle.tagset_report.specs.declared.fault.ReportFault.TheVariants.{RootUndeclared, PairsOver, NoMemory}
+use Rattle.tagset_report.specs.declared.outcome.Report.{Report}
 use Rattle.tagset_tool.specs.commands.Report.{count_line, differs_line, report_lines, report_status, reported, telling}
 use Rattle.tagset_tool.specs.Counts.{count_lines}
 use Rattle.tagset_tool.specs.Outcomes.{answering, fitting, fitting_by, most_written}

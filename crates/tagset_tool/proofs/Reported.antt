@@ -8,13 +8,13 @@ use Rattle.decl_set.specs.Declarations.{Declarations, content_in}
 use Rattle.decl_set.specs.Asked.{IsKept}
 use Rattle.decl_set.specs.declared.breaks.BrokenDecl.{BrokenDecl}
 use Rattle.decl_set.proofs.Found.{element_is}
-use Rattle.tagset_compare.specs.Reported.{IsReported, ListsBroken, PassesAt, Reports}
-use Rattle.tagset_compare.specs.declared.fault.ReportFault.{ReportFault}
-use Rattle.tagset_compare.specs.declared.fault.ReportFault.TheVariants.{RootUndeclared, PairsOver, NoMemory}
-use Rattle.tagset_compare.specs.declared.outcome.Report.{Report}
-use Rattle.tagset_compare.proofs.Broken.{none_is_listed}
-use Rattle.tagset_compare.proofs.Firsts.{documents_by_useful, first_listed, separated_by_breaks}
-use Rattle.tagset_compare.proofs.Once.{one_report}
+use Rattle.tagset_report.specs.Reported.{IsReported, ListsBroken, PassesAt, Reports}
+use Rattle.tagset_report.specs.declared.fault.ReportFault.{ReportFault}
+use Rattle.tagset_report.specs.declared.fault.ReportFault.TheVariants.{RootUndeclared, PairsOver, NoMemory}
+use Rattle.tagset_report.specs.declared.outcome.Report.{Report}
+use Rattle.tagset_report.proofs.Broken.{none_is_listed}
+use Rattle.tagset_report.proofs.Firsts.{documents_by_useful, first_listed, separated_by_breaks}
+use Rattle.tagset_report.proofs.Once.{one_report}
 use Rattle.tagset_tool.specs.Verdicts.{IsVerdict, verdict_by, verdict_of}
 use Rattle.tagset_tool.specs.commands.Compare.{FewPairs, compared, from_root, over_sets, saying}
 use Rattle.tagset_tool.specs.commands.Report.{report_lines, report_status, reported, unreported}

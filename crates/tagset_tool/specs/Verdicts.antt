@@ -5,7 +5,7 @@ use Rattle.decl_set.specs.Declarations.{Declarations}
 use Rattle.decl_set.specs.Validity.{HasDocument, IsSeparating, IsSubset}
 use Rattle.decl_set.specs.Breaks.{IsFirstBroken}
 use Rattle.decl_set.specs.declared.breaks.BrokenDecl.{BrokenDecl}
-use Rattle.tagset_compare.specs.declared.outcome.Report.{Report}
+use Rattle.tagset_report.specs.declared.outcome.Report.{Report}
 
 -- Subset: no document separates, and whether there are documents at all. Above: one does, and the first useful element that
 -- breaks is named with its cause.

@@ -1,7 +1,7 @@
 //! Reports of two sets from the word of a root.
 
 ghost use Rattle.std.specs.Prelude.{IfOk};
-ghost use Rattle.tagset_compare.specs.Reported.{Reports};
+ghost use Rattle.tagset_report.specs.Reported.{Reports};
 ghost use Rattle.tagset_tool.specs.Runs.{Says};
 ghost use Rattle.tagset_tool.specs.commands.Report as spec;
 
@@ -10,7 +10,7 @@ use crate::refusals::{pairs_over, root_undeclared};
 use decl_set::DeclSet;
 use jats_chars::{Name, NoMemory, Text};
 use std::alloc::Global;
-use tagset_compare::{Report, ReportFault, report};
+use tagset_report::{Report, ReportFault, report};
 
 /// The report of two sets; what is no Name is not declared.
 pub fn report_from(

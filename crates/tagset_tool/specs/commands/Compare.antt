@@ -6,7 +6,7 @@ use Rattle.module_reader.specs.Sources.{Files}
 use Rattle.decl_set.specs.declared.breaks.Cause.{Cause}
 use Rattle.decl_set.specs.declared.breaks.Cause.TheVariants as cause
 use Rattle.decl_set.specs.declared.breaks.BrokenDecl.{BrokenDecl}
-use Rattle.tagset_compare.specs.Reported.{PassesAt}
+use Rattle.tagset_report.specs.Reported.{PassesAt}
 use Rattle.tagset_tool.specs.Outcomes.{Outcome, after, answering, refusing}
 use Rattle.tagset_tool.specs.Refusals.{pairs_over, root_undeclared}
 use Rattle.tagset_tool.specs.Verdicts.{Verdict, Subset, Above, IsVerdict}

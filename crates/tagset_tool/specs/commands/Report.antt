@@ -5,10 +5,10 @@ use Rattle.std.specs.List.{flat_map}
 use Rattle.decl_set.specs.Declarations.{Declarations}
 use Rattle.decl_set.specs.declared.breaks.BrokenDecl.{BrokenDecl}
 use Rattle.module_reader.specs.Sources.{Files}
-use Rattle.tagset_compare.specs.Reported.{Reports}
-use Rattle.tagset_compare.specs.declared.fault.ReportFault.{ReportFault}
-use Rattle.tagset_compare.specs.declared.fault.ReportFault.TheVariants.{RootUndeclared, PairsOver, NoMemory}
-use Rattle.tagset_compare.specs.declared.outcome.Report.{Report}
+use Rattle.tagset_report.specs.Reported.{Reports}
+use Rattle.tagset_report.specs.declared.fault.ReportFault.{ReportFault}
+use Rattle.tagset_report.specs.declared.fault.ReportFault.TheVariants.{RootUndeclared, PairsOver, NoMemory}
+use Rattle.tagset_report.specs.declared.outcome.Report.{Report}
 use Rattle.tagset_tool.specs.Outcomes.{Outcome, after, fitting, refusing}
 use Rattle.tagset_tool.specs.Refusals.{pairs_over, root_undeclared}
 use Rattle.tagset_tool.specs.Words.{SetWords, set_by}

@@ -15,7 +15,7 @@ use decl_set::{BrokenDecl, Cause, DeclSet};
 use jats_chars::{NoMemory, Text};
 use jats_io::Store;
 use std::alloc::Global;
-use tagset_compare::Report;
+use tagset_report::Report;
 
 /// The word of a cause; an attribute is named behind it.
 pub fn cause_name(alloc: Global, cause: &Cause) -> Result<String, NoMemory>

@@ -17,7 +17,7 @@ use decl_set::{BrokenDecl, DeclSet};
 use jats_chars::{NoMemory, Text};
 use jats_io::Store;
 use std::alloc::Global;
-use tagset_compare::Report;
+use tagset_report::Report;
 
 fn put_difference(alloc: Global, out: &mut Vec<u8>, broken: &BrokenDecl) -> Result<(), NoMemory>
     ensures { OnOk result (out.new.items ≡ out.old.items ++ spec.differs_line broken.now) }
