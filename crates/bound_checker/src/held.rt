@@ -38,8 +38,8 @@ fn is_at(pair: &PairRow, i: u32, j: u32) -> bool
     pair.i == i && pair.j == j
 }
 
-/// The cost of a pair, where it is listed, sought by halves.
-fn pair_in(pairs: &[PairRow], i: u32, j: u32) -> Option<Cost>
+/// The cost G of the pair (i, j) among pairs that ascend, or None exactly where it is not listed. It is sought by halves.
+pub fn listed_cost(pairs: &[PairRow], i: u32, j: u32) -> Option<Cost>
     requires { AreAscending pairs.now }
     ensures { result ≡ option_map (λ s. s.g) (find (is_pair i j) pairs.now) }
 {
@@ -120,7 +120,7 @@ impl Held<'_> {
         requires { IsHeld self.now }
         ensures { result ≡ (costs_in self.now).g self.now.name.now i j }
     {
-        match pair_in(self.row.pairs.as_slice(), i, j) {
+        match listed_cost(self.row.pairs.as_slice(), i, j) {
             None => Cost::Fin(0),
             Some(g) => g,
         }

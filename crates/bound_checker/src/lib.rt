@@ -20,6 +20,7 @@ mod words;
 
 pub use check::{Broken, check_tables};
 pub use fault::CertFault;
+pub use held::listed_cost;
 pub use laws::{certificate_law, odd_law, sound_law, tests_law};
 pub use printing::print_cert;
 pub use reading::read_cert;

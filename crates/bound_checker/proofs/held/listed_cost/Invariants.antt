@@ -1,6 +1,6 @@
 use Rattle.std.proofs.Common.{◌≤◌, ◌-◌, length}
 use Rattle.bound_checker.proofs.Halves.{AreBelow, AreAbove}
-use Rattle.bound_checker.proofs.held.pair_in.Given as goal
+use Rattle.bound_checker.proofs.held.listed_cost.Given as goal
 
 abbrev pub invariant-loop-low : goal.invariant-loop-low
 invariant-loop-low l = record {

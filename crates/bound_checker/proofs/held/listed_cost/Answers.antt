@@ -3,7 +3,7 @@ use Rattle.std.proofs.lemmas.Option.{slice_get-get_or}
 use Rattle.tree_costs.specs.declared.cost.Cost.TheVariants.{Fin}
 use Rattle.bound_checker.specs.declared.tables.PairRow.{PairRow}
 use Rattle.bound_checker.proofs.Halves.{more_below, more_above, none_found, some_found}
-use Rattle.bound_checker.proofs.held.pair_in.Goals as goal
+use Rattle.bound_checker.proofs.held.listed_cost.Goals as goal
 
 abbrev none_row : PairRow
 none_row = record { i = 0; j = 0; g = Fin 0 }
