@@ -15,7 +15,7 @@ mod growing;
 mod laws;
 mod least;
 mod required;
-mod separating;
+mod separated;
 mod spending;
 #[cfg(test)]
 mod tests;
@@ -23,4 +23,4 @@ mod tests;
 pub use fault::BuildOver;
 pub use laws::{least_law, separating_law, size_law};
 pub use least::{least_article, least_size};
-pub use separating::separating;
+pub use separated::separating;

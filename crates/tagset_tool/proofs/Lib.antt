@@ -1,6 +1,7 @@
 pub mod Absences
 pub mod Asked
 pub mod Causes
+pub mod Compared
 pub mod Counted
 pub mod Heads
 pub mod Leaving

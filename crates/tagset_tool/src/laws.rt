@@ -2,7 +2,8 @@
 
 ghost use Rattle.tagset_tool.specs.Law.{OutputLaw, SubsetLaw};
 
-/// Where both sets are read and the first declares the root, status 0 says that no document separates, and status 1 that one does.
+/// Where both sets are read, the first declares the root and the output is not too long, status 0 says that no document
+/// separates, and status 1 that one does.
 pub fn subset_law()
     ensures { SubsetLaw }
 {}
