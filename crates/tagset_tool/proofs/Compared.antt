@@ -1,5 +1,5 @@
 -- What the output of a comparison says.
-use Rattle.std.proofs.Common.{◌≡◌, ◌∙◌, ℕ, Bool, true, false, List, Some, None, Ok, Err, IsSome, IsTrue, inl, inr, ◌⊎◌, length, nat_eq, nat_lt, refl, sym, subst}
+use Rattle.std.proofs.Common.{◌≡◌, ◌∙◌, ℕ, Bool, true, false, List, Some, None, Ok, Err, IsSome, IsTrue, inl, inr, ◌⊎◌, length, nat_eq, nat_lt, refl, sym, ap, subst}
 use Rattle.std.specs.Prelude.{Option, Result}
 use Rattle.std.specs.List.{starts_with}
 use Rattle.dtd_scanner.specs.Walk.{◌>>=◌}
@@ -48,11 +48,13 @@ module _ (first second : Declarations) (root : List ℕ) (cap : ℕ) where
     pub compares : Compares first second root cap most_written (Ok verdict)
     pub status_is : status ≡ verdict_status verdict
     pub bytes_are : bytes ≡ verdict_lines first cap verdict
+    pub short : nat_lt most_written (length bytes) ≡ false
 
-  fitted : (long : Bool) (v : Verdict) (status : ℕ) (bytes : List ℕ) → Compares first second root cap most_written (Ok v) → fitting_by long (verdict_status v) (verdict_lines first cap v) status bytes
-      → IsTooLong status bytes ⊎ Told status bytes
-  fitted true v status bytes is over = inl over
-  fitted false v status bytes is over = inr (record { verdict = v; compares = is; status_is = over.0; bytes_are = over.1 })
+  fitted : (long : Bool) (v : Verdict) (status : ℕ) (bytes : List ℕ) → nat_lt most_written (length (verdict_lines first cap v)) ≡ long → Compares first second root cap most_written (Ok v)
+      → fitting_by long (verdict_status v) (verdict_lines first cap v) status bytes → IsTooLong status bytes ⊎ Told status bytes
+  fitted true v status bytes size is over = inl over
+  fitted false v status bytes size is over =
+      inr (record { verdict = v; compares = is; status_is = over.0; bytes_are = over.1; short = ap (λ (b : List ℕ). nat_lt most_written (length b)) over.1 ∙ size })
 
   undeclared : (o : Option Content) → IsSome o → o ≡ None → ⊥
   undeclared None some is = cc
@@ -60,7 +62,7 @@ module _ (first second : Declarations) (root : List ℕ) (cap : ℕ) where
 
   by_result : (result : Result Verdict CompareFault) (status : ℕ) (bytes : List ℕ) → IsSome (content_in first root) → FewPairs first second → Compares first second root cap most_written result
       → answers first root cap result status bytes → IsTooLong status bytes ⊎ Told status bytes
-  by_result (Ok v) status bytes declared few is over = fitted (nat_lt most_written (length (verdict_lines first cap v))) v status bytes is over
+  by_result (Ok v) status bytes declared few is over = fitted (nat_lt most_written (length (verdict_lines first cap v))) v status bytes refl is over
   by_result (Err RootUndeclared) status bytes declared few is over = absurd (undeclared (content_in first root) declared is)
   by_result (Err (PairsOver name)) status bytes declared few is over = absurd (few name is.1)
   by_result (Err TextOver) status bytes declared few is over = inl over
