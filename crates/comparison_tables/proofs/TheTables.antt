@@ -3,7 +3,6 @@ use Rattle.std.proofs.Common.{◌≡◌, ◌≤◌, ℕ, suc, List, [], ◌∷�
 use Rattle.std.specs.Prelude.{option_and_then, option_map}
 use Rattle.std.specs.List.{AllByRecursion}
 use Rattle.std.specs.Option.{option_map_or}
-use Rattle.std.proofs.lemmas.Bool.{eq-eqb, and_from}
 use Rattle.std.proofs.lemmas.Option.{slice_get-map}
 use Rattle.content_models.specs.declared.content.Content.{Content}
 use Rattle.content_models.specs.Model.{Chars}
@@ -20,7 +19,7 @@ use Rattle.bound_checker.specs.declared.tables.Row.{Row}
 use Rattle.bound_checker.specs.declared.tables.Tables.{Tables}
 use Rattle.bound_checker.specs.Certificates.{IsShort, AreShort}
 use Rattle.bound_checker.specs.Kinds.{Feasible}
-use Rattle.bound_checker.specs.Tabled.{costs_of, row_of, is_pair, IsPair, AreAscending, FitsRow, FitRows}
+use Rattle.bound_checker.specs.Tabled.{costs_of, row_of, states_of, is_pair, IsPair, AreAscending, FitsRow, FitRows}
 use Rattle.bound_checker.proofs.Halves.{some_found}
 use Rattle.bound_checker.proofs.Rows.{fits_at, row_is}
 use Rattle.bound_checker.proofs.Tests.{none_is_broken}
@@ -28,7 +27,7 @@ use Rattle.exact_tables.specs.Laws.{Agree}
 use Rattle.exact_tables.proofs.Closing.{exact_is_feasible}
 use Rattle.exact_tables.proofs.Unique.{one_exact}
 use Rattle.comparison_tables.specs.Exact.{OneTables, TablesAreAccepted, TablesAreShort}
-use Rattle.comparison_tables.specs.Outcome.{states_of, ListPairs, AreExactTables}
+use Rattle.comparison_tables.specs.Outcome.{ListPairs, AreExactTables}
 use Rattle.comparison_tables.specs.Sides.{ArePairsOf}
 use Rattle.comparison_tables.proofs.Bounds.{few_states, few_at}
 use Rattle.comparison_tables.proofs.Knowing.{pair_listed}
@@ -83,7 +82,7 @@ mapped_or v (Some x) h = let same : v ≡ x.g = cc in sym same
 pair_cost : (pairs : List PairRow) (k : ℕ) (x : PairRow) → AreAscending pairs → slice_get pairs k ≡ Some x
     → option_map_or (λ (y : PairRow). y.g) (find (is_pair x.i x.j) pairs) (Fin 0) ≡ x.g
 pair_cost pairs k x a q =
-    mapped_or x.g (find (is_pair x.i x.j) pairs) (some_found pairs x.i x.j k x a q (and_from _ _ (eq-eqb x.i x.i refl) (eq-eqb x.j x.j refl)))
+    mapped_or x.g (find (is_pair x.i x.j) pairs) (some_found pairs x.i x.j k x a q refl)
 
 -- ---- one table
 

@@ -1,7 +1,6 @@
 pub mod Kinds
 pub mod Sides
 pub mod Shapes
-pub mod Places
 pub mod Finding
 pub mod Holding
 pub mod Copies
