@@ -146,7 +146,7 @@ module _ (p : ℕ → Bool) (t : IsPassed p) where
 
 -- ---- they hold no LF
 
-abbrev is_inline : ℕ → Bool
+abbrev pub is_inline : ℕ → Bool
 is_inline c = not (c == 0xA)
 
 abbrev AreInline : List Chars → Type 0

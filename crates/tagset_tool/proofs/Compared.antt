@@ -1,5 +1,5 @@
 -- What the output of a comparison says.
-use Rattle.std.proofs.Common.{◌≡◌, ◌∙◌, ℕ, Bool, true, false, List, Some, None, Ok, Err, IsSome, IsTrue, inl, inr, ◌⊎◌, length, nat_eq, nat_lt, refl, sym, ap, subst}
+use Rattle.std.proofs.Common.{◌≡◌, ◌∙◌, ℕ, Bool, true, false, List, Some, None, Ok, Err, IsSome, IsTrue, inl, inr, ◌⊎◌, length, nat_eq, nat_lt, refl, sym, ap, subst, arith}
 use Rattle.std.specs.Prelude.{Option, Result}
 use Rattle.std.specs.List.{starts_with}
 use Rattle.dtd_scanner.specs.Walk.{◌>>=◌}
@@ -18,11 +18,17 @@ use Rattle.tagset_compare.proofs.Verdicts.{verdict_true}
 use Rattle.tagset_tool.specs.Law.{FewPairs, IsCompared, IsTooLong, SaysSubset}
 use Rattle.tagset_tool.specs.Outcomes.{after, fitting, fitting_by, most_written}
 use Rattle.tagset_tool.specs.Output.{IsOutput, outcome_of}
-use Rattle.tagset_tool.specs.Words.{Asked, set_by}
+use Rattle.tagset_tool.specs.Words.{Asked, SetWords, both_by, set_by}
 use Rattle.tagset_tool.specs.commands.Compare.{answers, over_sets, subset_line, verdict_lines, verdict_status}
 use Rattle.tagset_tool.proofs.OneOutput.{kept_by}
 
 -- ---- the two sets
+
+abbrev paired : Result Declarations Fault → Result Declarations Fault → Result (Declarations × Declarations) Fault
+paired r t = r >>= λ first. t >>= λ second. Ok (first, second)
+
+pub both_read : (files : Files) (one other : SetWords) (first second : Declarations) → set_by files one ≡ Ok first → set_by files other ≡ Ok second → both_by files one other ≡ Ok (first, second)
+both_read files one other first second p q = ap (λ (r : Result Declarations Fault). paired r (set_by files other)) p ∙ ap (λ (t : Result Declarations Fault). paired (Ok first) t) q
 
 module _ (words : List (List ℕ)) (files : Files) (first second : Declarations) (root : List ℕ) (cap : ℕ) (compared : IsCompared words files first second root cap) where
   pub first_kept : IsKept first
@@ -35,9 +41,8 @@ module _ (words : List (List ℕ)) (files : Files) (first second : Declarations)
   pub compared_output : (status : ℕ) (bytes : List ℕ) → IsOutput words files status bytes → over_sets first second root cap status bytes
   compared_output status bytes output =
       let P : Option Asked → Type 0 = λ o. outcome_of o files status bytes in
-      let Q : Result Declarations Fault → Type 0 = λ r. after (r >>= λ a. set_by files compared.other >>= λ b. Ok (a, b)) (λ sets. over_sets sets.0 sets.1 root cap) status bytes in
-      let R : Result Declarations Fault → Type 0 = λ r. after (r >>= λ b. Ok (first, b)) (λ sets. over_sets sets.0 sets.1 root cap) status bytes in
-      subst R compared.reads_second (subst Q compared.reads_first (subst P compared.asks output))
+      let Q : Result (Declarations × Declarations) Fault → Type 0 = λ r. after r (λ sets. over_sets sets.0 sets.1 root cap) status bytes in
+      subst Q (both_read files compared.one compared.other first second compared.reads_first compared.reads_second) (subst P compared.asks output)
 
 -- ---- the verdict
 
@@ -77,8 +82,8 @@ module _ (first second : Declarations) (root : List ℕ) (cap : ℕ) where
 abbrev BeginsSubset : List ℕ → Type 0
 BeginsSubset bytes = IsTrue (starts_with nat_eq bytes subset_line)
 
-off_by_one : (status : ℕ) → status ≡ 0 → status ≡ 1 → ⊥
-off_by_one status zero one = let off : 0 ≡ 1 = sym zero ∙ one in cc
+pub off_by_one : (status : ℕ) → status ≡ 0 → status ≡ 1 → ⊥
+off_by_one status zero one = omega (arith, zero, one)
 
 pub says_subset : (first second : Declarations) (root : List ℕ) (cap status : ℕ) (bytes : List ℕ) (v : Verdict) → SaysOf first second root cap v → status ≡ verdict_status v → bytes ≡ verdict_lines first cap v
     → SaysSubset first second root status bytes

@@ -6,6 +6,7 @@ use Rattle.std.specs.List.{AllByRecursion, flat_map, list_all}
 use Rattle.std.proofs.lemmas.Bool.{and_parts, false_from_ne_true, eqb-true}
 use Rattle.dtd_scanner.specs.Walk.{◌>>=◌}
 use Rattle.jats_fault.specs.declared.fault.Fault.{Fault}
+use Rattle.jats_fault.specs.declared.numbers.TheConstants as number
 use Rattle.jats_chars.specs.Classes.{is_name_char, is_name_start}
 use Rattle.jats_chars.specs.Decoded.{mark_len, text_of, without_declaration}
 use Rattle.jats_chars.specs.Names.{is_name}
@@ -28,6 +29,7 @@ use Rattle.article_tree.specs.Decoding.{decoded_article}
 use Rattle.article_tree.specs.Writing.{IsWritable, enclosed, write, written, written_attribute}
 use Rattle.article_tree.proofs.WrittenBack.{read_back}
 use Rattle.module_reader.specs.Sources.{Files, file_text, text_held, decoded_by}
+use Rattle.module_reader.specs.Stops.{refusal}
 use Rattle.tagset_compare.specs.Compared.{Compares}
 use Rattle.tagset_compare.specs.Verdicts.{SaysOf, bound_in, tables_in}
 use Rattle.tagset_compare.specs.declared.outcome.Verdict.{Verdict}
@@ -43,7 +45,7 @@ use Rattle.tagset_tool.specs.Words.{Asked, SetWords, asked, both_by, set_by, ver
 use Rattle.tagset_tool.specs.commands.Compare.{verdict_lines, verdict_status}
 use Rattle.tagset_tool.specs.commands.Verify.{certified, checked, claim, most_certified, verifies_by}
 use Rattle.tagset_tool.proofs.Characters.{article_is_text, text_passed}
-use Rattle.tagset_tool.proofs.Compared.{Told, compared_output, first_kept, second_kept, told_by}
+use Rattle.tagset_tool.proofs.Compared.{Told, both_read, compared_output, first_kept, off_by_one, second_kept, told_by}
 use Rattle.tagset_tool.proofs.Named.{first_named, useful_named}
 use Rattle.tagset_tool.proofs.Reported.{root_bound}
 use Rattle.tagset_tool.proofs.Spelled.{IsPlain, behind, head_lines, heads_beside, heads_inline, verdict_bytes, verdict_chars, verdict_text}
@@ -94,12 +96,8 @@ held_text : (files : Files) (name bytes text : List ℕ) → held files name ≡
 unfolding file_text
 held_text files name bytes text is short read =
     ap (text_held most_certified name) is
-    ∙ ap (λ b. cond b (Err _) (decoded_by name (λ t. Ok t) (text_of bytes))) short
+    ∙ ap (λ b. cond b (Err (refusal number.MODULE_LONG name 0 [])) (decoded_by name (λ t. Ok t) (text_of bytes))) short
     ∙ ap (decoded_by name (λ t. Ok t)) read
-
-both_read : (files : Files) (one other : SetWords) (first second : Declarations) → set_by files one ≡ Ok first → set_by files other ≡ Ok second → both_by files one other ≡ Ok (first, second)
-both_read files one other first second p q =
-    ap (λ (r : Result Declarations Fault). r >>= λ a. set_by files other >>= λ b. Ok (a, b)) p ∙ ap (λ (r : Result Declarations Fault). r >>= λ b. Ok (first, b)) q
 
 pub verified : (first second : Declarations) (bytes : List ℕ) (tables : Tables) (bound : Cost) → (c : Certifies first second bytes tables bound) → text_of bytes ≡ Ok c.text → nat_lt most_certified (length bytes) ≡ false
     → IsVerified first second bytes bound
@@ -149,9 +147,6 @@ module _ (first second : Declarations) (root : List ℕ) (cap : ℕ) (kf : IsKep
       let cert = lines_pass is_text_char text_passed first second (tables_in v) kf exact.fits short in
       ap text_of (said ∙ verdict_bytes first cap v plain) ∙ text_read (verdict_text first cap v) (letter_unmarked first cap v) (letter_undeclared first cap v) (verdict_chars first cap v plain cert)
 
-  off_by_one : (status : ℕ) → status ≡ 0 → status ≡ 1 → ⊥
-  off_by_one status zero one = let off : 0 ≡ 1 = sym zero ∙ one in cc
-
   headline_by : (v : Verdict) (status : ℕ) (bytes : List ℕ) → Compares first second root cap most_written (Ok v) → SaysOf first second root cap v → Certifies first second bytes (tables_in v) (bound_in cap v)
       → IsVerified first second bytes (bound_in cap v) → status ≡ verdict_status v → bytes ≡ verdict_lines first cap v → Headline first second root cap status bytes
   headline_by (Subset tables) status bytes is says cert file status_is said = record {
@@ -181,6 +176,7 @@ module _ (first second : Declarations) (root : List ℕ) (cap : ℕ) (kf : IsKep
   }
 
   headline_told : (status : ℕ) (bytes : List ℕ) → Told first second root cap status bytes → Headline first second root cap status bytes
+  unfolding certified_by
   headline_told status bytes told =
       let v = told.verdict in
       let says = verdict_true first second root cap most_written v kf ks told.compares in
@@ -192,8 +188,8 @@ module _ (first second : Declarations) (root : List ℕ) (cap : ℕ) (kf : IsKep
   too_long : (status : ℕ) (bytes : List ℕ) → IsTooLong status bytes → Headline first second root cap status bytes
   too_long status bytes long = record {
     one_of = inl long;
-    subset = λ zero. absurd (let off : 2 ≡ 0 = sym long.0 ∙ zero in cc);
-    separate = λ one. absurd (let off : 2 ≡ 1 = sym long.0 ∙ one in cc);
+    subset = λ zero. absurd (omega (arith, long.0, zero));
+    separate = λ one. absurd (omega (arith, long.0, one));
   }
 
   pub headline_of : (status : ℕ) (bytes : List ℕ) → IsTooLong status bytes ⊎ Told first second root cap status bytes → Headline first second root cap status bytes

@@ -48,17 +48,13 @@ Named name = IsTrue (is_name name)
 
 -- ---- the first that a function gives
 
-given : {X Y : Type 0} (f : X → Option Y) (P : X → Type 0) (Q : Y → Type 0) → ((x : X) → P x → (y : Y) → f x ≡ Some y → Q y) → (xs : List X) → AllByRecursion P xs → (y : Y) → first_some f xs ≡ Some y → Q y
-given f P Q each [] all y is = cc
-given {X} {Y} f P Q each (x ∷ xs) all y is = by (f x) refl is
-  where
-    by : (o : Option Y) → f x ≡ o → option_or o (first_some f xs) ≡ Some y → Q y
-    by None e is = given f P Q each xs all.1 y is
-    by (Some z) e is = let same : z ≡ y = cc in subst Q same (each x all.0 z e)
-
 either : {Y : Type 0} (Q : Y → Type 0) (o p : Option Y) (y : Y) → ((z : Y) → o ≡ Some z → Q z) → ((z : Y) → p ≡ Some z → Q z) → option_or o p ≡ Some y → Q y
 either Q None p y one other is = other y is
 either Q (Some z) p y one other is = let same : z ≡ y = cc in subst Q same (one z refl)
+
+given : {X Y : Type 0} (f : X → Option Y) (P : X → Type 0) (Q : Y → Type 0) → ((x : X) → P x → (y : Y) → f x ≡ Some y → Q y) → (xs : List X) → AllByRecursion P xs → (y : Y) → first_some f xs ≡ Some y → Q y
+given f P Q each [] all y is = cc
+given f P Q each (x ∷ xs) all y is = either Q (f x) (first_some f xs) y (λ z e. each x all.0 z e) (λ z e. given f P Q each xs all.1 z e) is
 
 unless_named : (b : Bool) (name other : List ℕ) → Named name → cond b None (Some name) ≡ Some other → Named other
 unless_named true name other named is = cc

@@ -190,9 +190,9 @@ documents_inline true = refl
 documents_inline false = refl
 
 pub heads_inline : (first : Declarations) (cap : ℕ) (v : Verdict) → IsPlain cap v → AllByRecursion IsInline (head_lines first cap v)
-heads_inline first cap (Subset tables) plain = (refl, documents_inline (has_size ((costs_of first tables).m tables.root)), tt)
-heads_inline first cap (Not article broken tables) plain = (refl, number_inline (codes "least ") (size article) plain.2 refl, broken_inline broken plain.0, tt)
-heads_inline first cap (Over broken tables) plain = (refl, number_inline (codes "above ") cap plain.1 refl, broken_inline broken plain.0, tt)
+heads_inline first cap (Subset tables) plain = (refl, (documents_inline (has_size ((costs_of first tables).m tables.root)), tt))
+heads_inline first cap (Not article broken tables) plain = (refl, (number_inline (codes "least ") (size article) plain.2 refl, (broken_inline broken plain.0, tt)))
+heads_inline first cap (Over broken tables) plain = (refl, (number_inline (codes "above ") cap plain.1 refl, (broken_inline broken plain.0, tt)))
 
 documents_beside : (some : Bool) → IsBeside (documents_text some)
 documents_beside true = refl
@@ -203,9 +203,9 @@ broken_beside broken = refl
 
 -- none begins as a certificate does
 pub heads_beside : (first : Declarations) (cap : ℕ) (v : Verdict) → AllByRecursion IsBeside (head_lines first cap v)
-heads_beside first cap (Subset tables) = (refl, documents_beside (has_size ((costs_of first tables).m tables.root)), tt)
-heads_beside first cap (Not article broken tables) = (refl, refl, broken_beside broken, tt)
-heads_beside first cap (Over broken tables) = (refl, refl, broken_beside broken, tt)
+heads_beside first cap (Subset tables) = (refl, (documents_beside (has_size ((costs_of first tables).m tables.root)), tt))
+heads_beside first cap (Not article broken tables) = (refl, (refl, (broken_beside broken, tt)))
+heads_beside first cap (Over broken tables) = (refl, (refl, (broken_beside broken, tt)))
 
 -- ---- characters
 
@@ -236,9 +236,9 @@ documents_chars false = refl
 
 heads_chars : (first : Declarations) (cap : ℕ) (v : Verdict) → IsPlain cap v → AllByRecursion IsText (head_lines first cap v)
 unfolding is_char
-heads_chars first cap (Subset tables) plain = (refl, documents_chars (has_size ((costs_of first tables).m tables.root)), tt)
-heads_chars first cap (Not article broken tables) plain = (refl, number_chars (codes "least ") (size article) plain.2 refl, broken_chars broken plain.0, tt)
-heads_chars first cap (Over broken tables) plain = (refl, number_chars (codes "above ") cap plain.1 refl, broken_chars broken plain.0, tt)
+heads_chars first cap (Subset tables) plain = (refl, (documents_chars (has_size ((costs_of first tables).m tables.root)), tt))
+heads_chars first cap (Not article broken tables) plain = (refl, (number_chars (codes "least ") (size article) plain.2 refl, (broken_chars broken plain.0, tt)))
+heads_chars first cap (Over broken tables) plain = (refl, (number_chars (codes "above ") cap plain.1 refl, (broken_chars broken plain.0, tt)))
 
 behind_chars : (cap : ℕ) (v : Verdict) → IsPlain cap v → IsText (behind v)
 unfolding is_char
