@@ -31,10 +31,9 @@ use Rattle.article_tree.proofs.WrittenBack.{read_back}
 use Rattle.module_reader.specs.Sources.{Files, file_text, text_held, decoded_by}
 use Rattle.module_reader.specs.Stops.{refusal}
 use Rattle.tagset_compare.specs.Compared.{Compares}
-use Rattle.tagset_compare.specs.Verdicts.{SaysOf, bound_in, tables_in}
+use Rattle.tagset_compare.specs.Verdicts.{SaysOf, VerdictIsTrue, bound_in, tables_in}
 use Rattle.tagset_compare.specs.declared.outcome.Verdict.{Verdict}
 use Rattle.tagset_compare.specs.declared.outcome.Verdict.TheVariants.{Subset, Not, Over}
-use Rattle.tagset_compare.proofs.Verdicts.{verdict_true}
 use Rattle.dtd_flattener.proofs.Encoded.{text_read}
 use Rattle.dtd_flattener.proofs.TextChars.{is_text_char}
 use Rattle.tagset_tool.specs.Headline.{Certifies, Headline, HeadlineLaw, IsReadBack, IsVerified, SaysAbove, SaysAll, ShowsArticle}
@@ -112,7 +111,7 @@ verified first second bytes tables bound c read short words files name one other
 
 -- ---- the verdict
 
-module _ (first second : Declarations) (root : List ℕ) (cap : ℕ) (kf : IsKept first) (ks : IsKept second) where
+module _ (verdict_true : VerdictIsTrue) (first second : Declarations) (root : List ℕ) (cap : ℕ) (kf : IsKept first) (ks : IsKept second) where
   exact_of : (v : Verdict) → Compares first second root cap most_written (Ok v) → AreExactTables first second root cap (tables_in v)
   exact_of (Subset tables) is = is.0
   exact_of (Not article broken tables) is = is.0.0
@@ -196,7 +195,7 @@ module _ (first second : Declarations) (root : List ℕ) (cap : ℕ) (kf : IsKep
   headline_of status bytes (inl long) = too_long status bytes long
   headline_of status bytes (inr told) = headline_told status bytes told
 
-pub headline : HeadlineLaw
-headline words files first second root cap status bytes compared output =
-    headline_of first second root cap (first_kept words files first second root cap compared) (second_kept words files first second root cap compared) status bytes
+pub headline : VerdictIsTrue → HeadlineLaw
+headline verdict_true words files first second root cap status bytes compared output =
+    headline_of verdict_true first second root cap (first_kept words files first second root cap compared) (second_kept words files first second root cap compared) status bytes
     (told_by first second root cap status bytes compared.declared compared.few (compared_output words files first second root cap compared status bytes output))

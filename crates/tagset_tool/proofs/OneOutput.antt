@@ -29,7 +29,7 @@ use Rattle.tagset_tool.specs.commands.Verify.{broken_words, certified, checked, 
 use Rattle.tagset_compare.specs.declared.fault.CompareFault.{CompareFault}
 use Rattle.tagset_compare.specs.declared.fault.CompareFault.TheVariants as compared
 use Rattle.tagset_compare.specs.declared.outcome.Verdict.{Verdict}
-use Rattle.tagset_compare.proofs.Once.{one_verdict}
+use Rattle.tagset_compare.proofs.Single.{one_verdict}
 use Rattle.tagset_report.specs.declared.fault.ReportFault.{ReportFault}
 use Rattle.tagset_report.specs.declared.fault.ReportFault.TheVariants.{RootUndeclared, PairsOver, NoMemory}
 use Rattle.tagset_report.specs.declared.outcome.Report.{Report}

@@ -16,7 +16,7 @@ use Rattle.tagset_compare.specs.Verdicts.{bound_in, tables_in}
 use Rattle.tagset_compare.specs.declared.fault.CompareFault.{CompareFault}
 use Rattle.tagset_compare.specs.declared.outcome.Verdict.{Verdict}
 use Rattle.tagset_compare.specs.declared.outcome.Verdict.TheVariants.{Subset, Not, Over}
-use Rattle.tagset_compare.proofs.Verdicts.{bound_told}
+use Rattle.tagset_compare.proofs.Telling.{bound_is_told}
 use Rattle.tagset_tool.specs.Outcomes.{fitting, most_written}
 use Rattle.tagset_tool.specs.commands.Compare.{over_sets, uncompared, verdict_lines, verdict_status}
 use Rattle.tagset_tool.specs.commands.Report.{report_lines, report_status, reported, unreported}
@@ -62,4 +62,4 @@ module _ (first second : Declarations) (root : List ℕ) (cap : ℕ) where
   -- and v of their root is the bound that it tells
   pub root_bound : (verdict : Verdict) → IsKept first → IsKept second → Compares first second root cap most_written (Ok verdict)
       → (costs_of first (tables_in verdict)).v (tables_in verdict).root ≡ bound_in cap verdict
-  root_bound verdict kf ks is = ap (costs_of first (tables_in verdict)).v (verdict_root verdict is) ∙ bound_told first second root cap most_written verdict kf ks is
+  root_bound verdict kf ks is = ap (costs_of first (tables_in verdict)).v (verdict_root verdict is) ∙ bound_is_told first second root cap most_written verdict kf ks is
