@@ -9,4 +9,5 @@ pub mod Plans
 pub mod Standing
 pub mod Rows
 pub mod Outcome
+pub mod Exact
 pub mod Laws

@@ -8,8 +8,9 @@
 //! `sides` finds for each element whether it is odd and which pairs of states are listed. The states of a copy are numbered
 //! (`kinds`): the start, then one for P and one for F of each state, then the listed pairs in their order, each found by
 //! halves (`places`). `accepting` and `steps` say of a number whether it accepts and which steps it has, one at a time and
-//! looked up where they are asked for; `copies` says so of each element and copy by its place, `graph` hands it to the solver of `least_trees`, and `rows` reads the tables off
-//! its costs. `graph_law` says that the numbers stand for the graph of a comparison.
+//! looked up where they are asked for; `copies` says so of each element and copy by its place, `graph` hands it to the
+//! solver of `least_trees`, and `rows` reads the tables off its costs. `graph_law` says that the numbers stand for the graph
+//! of a comparison, and `tables_law` that the exact tables are one, are accepted, and can be printed.
 #![tactic(auto)]
 
 mod accepting;
@@ -26,5 +27,5 @@ mod steps;
 mod tables;
 
 pub use fault::TablesFault;
-pub use laws::graph_law;
+pub use laws::{graph_law, tables_law};
 pub use tables::exact_tables;
