@@ -38,26 +38,12 @@ module _ (first second : Declarations) (root : Chars) (cap : ℕ) (tables : Tabl
   pub exact_own : AreExactTables first second tables.root tables.cap tables
   exact_own = subst (λ (e : Chars). AreExactTables first second e tables.cap tables) (sym X.root_is) (subst (λ (k : ℕ). AreExactTables first second root k tables) (sym X.cap_is) X)
 
-  -- and so is what is compared by them
-  pub compares_own : (limit : ℕ) (result : Result Verdict CompareFault) → Compares first second tables.root tables.cap limit result → Compares first second root cap limit result
-  compares_own limit result h =
-      subst (λ (k : ℕ). Compares first second root k limit result) X.cap_is (subst (λ (e : Chars). Compares first second e tables.cap limit result) X.root_is h)
-
   -- the size of a separating tree
   pub root_bound : (h : HasSeparating first tables) → (costs_of first tables).v root ≡ Fin h.0
   root_bound h = subst (λ (e : Chars). (costs_of first tables).v e ≡ Fin h.0) X.root_is h.1
 
   pub bound_within : (h : HasSeparating first tables) → h.0 ≤ cap
   bound_within h = subst (λ (k : ℕ). h.0 ≤ k) X.cap_is h.2
-
-  -- a number above the cap is one above it
-  pub one_above : (n : ℕ) → (costs_of first tables).v root ≡ Fin n → (n ≤ cap → ⊥) → (costs_of first tables).v root ≡ Fin (cap + 1)
-  one_above n q off = elim (X.exact.v root).1 [
-    | inl z ↦ (let e : Fin n ≡ Inf = sym q ∙ z in cc)
-    | inr t ↦
-        let e : n ≡ min (size t.0) (cap + 1) = (let s : Fin n ≡ Fin (min (size t.0) (cap + 1)) = sym q ∙ t.2 in cc) in
-        q ∙ ap Fin (let l : n ≡ cap + 1 = omega (arith, e, off) in l)
-  ]
 
   module _ (kf : IsKept first) (ks : IsKept second) where
     -- the chosen tree is as large as v says, and it separates

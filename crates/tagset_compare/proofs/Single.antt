@@ -19,6 +19,7 @@ use Rattle.tagset_report.specs.Reported.{PassesAt}
 use Rattle.tagset_report.proofs.Judging.{one_cause}
 use Rattle.tagset_report.proofs.Once.{not_later, passes_once}
 use Rattle.comparison_tables.specs.Outcome.{AreExactTables}
+use Rattle.comparison_tables.proofs.TheTables.{one_tables}
 use Rattle.separating_article.specs.Articles.{text_size}
 use Rattle.separating_article.specs.Separating.{IsChosenOf}
 use Rattle.tagset_compare.specs.declared.fault.CompareFault.{CompareFault}
@@ -60,12 +61,6 @@ one_first_broken first second root d e one other =
 
 -- ---- answers
 
--- two sets have one table for a root and a cap
-abbrev pub OneTables : Type 0
-OneTables =
-    (first second : Declarations) (root : Chars) (cap : ℕ) (t u : Tables) → set.IsKept first → set.IsKept second
-    → AreExactTables first second root cap t → AreExactTables first second root cap u → t ≡ u
-
 undeclared : (o : Option Content) → (a : Content) × (o ≡ Some a) → o ≡ None → ⊥
 undeclared o h e = let q : Some h.0 ≡ None = sym h.1 ∙ e in cc
 
@@ -78,7 +73,7 @@ some_same b c e = cc
 fin-same : (n m : ℕ) → Fin n ≡ Fin m → n ≡ m
 fin-same n m e = cc
 
-module _ (first second : Declarations) (root : Chars) (cap limit : ℕ) (kf : set.IsKept first) (ks : set.IsKept second) (one : OneTables) where
+module _ (first second : Declarations) (root : Chars) (cap limit : ℕ) (kept : set.IsKept first) where
   abbrev Compared : Result Verdict CompareFault → Type 0
   Compared result = Compares first second root cap limit result
 
@@ -100,7 +95,7 @@ module _ (first second : Declarations) (root : Chars) (cap limit : ℕ) (kf : se
 
   -- one bound
   same_bounds : (t u : Tables) (c d : Cost) → AreExact t → AreExact u → v_of t ≡ c → v_of u ≡ d → c ≡ d
-  same_bounds t u c d X Y q r = sym q ∙ ap v_of (one first second root cap t u kf ks X Y) ∙ r
+  same_bounds t u c d X Y q r = sym q ∙ ap v_of (one_tables first second root cap t u kept X Y) ∙ r
 
   not_subset : (t u : Tables) (article : Node) → AreExact t → v_of t ≡ Inf → ByTables u article → ⊥
   not_subset t u article X q h =
@@ -119,22 +114,22 @@ module _ (first second : Declarations) (root : Chars) (cap limit : ℕ) (kf : se
   same_article : (t u : Tables) (x y : Node) → ByTables t x → ByTables u y → x ≡ y
   same_article t u x y h g =
       one_chosen first second t.cap (costs_of first t) t.root x y h.2
-      (subst (λ (z : Tables). IsChosenOf first second z y) (sym (one first second root cap t u kf ks h.0 g.0)) g.2)
+      (subst (λ (z : Tables). IsChosenOf first second z y) (sym (one_tables first second root cap t u kept h.0 g.0)) g.2)
 
   same_verdict : (v w : Verdict) → Compared (Ok v) → Compared (Ok w) → v ≡ w
-  same_verdict (Subset t) (Subset u) h g = ap (λ (z : Tables). Subset z) (one first second root cap t u kf ks h.0 g.0)
+  same_verdict (Subset t) (Subset u) h g = ap (λ (z : Tables). Subset z) (one_tables first second root cap t u kept h.0 g.0)
   same_verdict (Subset t) (Not y c u) h g = absurd (not_subset t u y h.0 h.1 g.0)
   same_verdict (Subset t) (Over c u) h g = absurd (not_both t u h.0 h.1 g.0.0 g.0.1)
   same_verdict (Not x b t) (Subset u) h g = absurd (not_subset u t x g.0 g.1 h.0)
   same_verdict (Not x b t) (Not y c u) h g =
       let article = same_article t u x y h.0 g.0 in
       let broken = some_same b c (sym h.2 ∙ subst (λ (z : Node). IsBrokenAt second z c) (sym article) g.2) in
-      ap (λ (z : Node). Not z b t) article ∙ ap (λ (z : BrokenDecl). Not y z t) broken ∙ ap (λ (z : Tables). Not y c z) (one first second root cap t u kf ks h.0.0 g.0.0)
+      ap (λ (z : Node). Not z b t) article ∙ ap (λ (z : BrokenDecl). Not y z t) broken ∙ ap (λ (z : Tables). Not y c z) (one_tables first second root cap t u kept h.0.0 g.0.0)
   same_verdict (Not x b t) (Over c u) h g = absurd (not_over u t x g.0.0 g.0.1 h.0)
   same_verdict (Over b t) (Subset u) h g = absurd (not_both u t g.0 g.1 h.0.0 h.0.1)
   same_verdict (Over b t) (Not y c u) h g = absurd (not_over t u y h.0.0 h.0.1 g.0)
   same_verdict (Over b t) (Over c u) h g =
-      ap (λ (z : BrokenDecl). Over z t) (one_first_broken first second root b c h.1 g.1) ∙ ap (λ (z : Tables). Over c z) (one first second root cap t u kf ks h.0.0 g.0.0)
+      ap (λ (z : BrokenDecl). Over z t) (one_first_broken first second root b c h.1 g.1) ∙ ap (λ (z : Tables). Over c z) (one_tables first second root cap t u kept h.0.0 g.0.0)
 
   exact_in : (v : Verdict) → Compared (Ok v) → AreExact (tables_in v)
   exact_in (Subset t) h = h.0
@@ -178,5 +173,5 @@ module _ (first second : Declarations) (root : Chars) (cap limit : ℕ) (kf : se
   same_result (Err f) (Err k) h g n m =
       ap (λ (z : CompareFault). Err z) (same_fault f k h g (λ e. n (ap (λ (z : CompareFault). Err z) e)) (λ e. m (ap (λ (z : CompareFault). Err z) e)))
 
-pub one_verdict : OneTables → OneVerdict
-one_verdict one first second root cap limit result other kf ks h g n m = same_result first second root cap limit kf ks one result other h g n m
+pub one_verdict : OneVerdict
+one_verdict first second root cap limit result other kf ks h g n m = same_result first second root cap limit kf result other h g n m
