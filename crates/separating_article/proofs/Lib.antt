@@ -1,7 +1,9 @@
 pub mod TextSizes
-pub mod RequiredAtts
+pub mod ShownAtts
 pub mod Trees
 pub mod NextSteps
+pub mod Opened
 pub mod UnderWay
 pub mod Stepped
 pub mod Built
+pub mod Answered

@@ -9,18 +9,21 @@
 //! `specs/Growing.antt` says what a tree under way still comes to, and `specs/Sizes.antt` how many bytes a text has.
 #![tactic(auto)]
 
+mod building;
 mod choosing;
 mod fault;
 mod growing;
+mod guide;
 mod laws;
 mod least;
+mod opening;
 mod required;
-mod separating;
+mod separated;
 mod spending;
 #[cfg(test)]
 mod tests;
 
 pub use fault::BuildOver;
 pub use laws::{least_law, separating_law, size_law};
-pub use least::{least_article, least_size};
-pub use separating::separating;
+pub use least::least_article;
+pub use separated::separating;

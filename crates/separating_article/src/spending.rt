@@ -1,9 +1,10 @@
 //! The bytes of a text, taken from those that are left.
 
-ghost use Rattle.std.specs.Prelude.{◌≡◌, ◌+◌, if◌then◌else◌};
+ghost use Rattle.std.specs.Prelude.{◌≡◌, ◌+◌, if◌then◌else◌, option_map};
 ghost use Rattle.std.specs.List.{flat_map};
 ghost use Rattle.article_tree.specs.Writing.{value_char};
-ghost use Rattle.separating_article.specs.Sizes.{Spends, attribute_size, bytes, names_size};
+ghost use Rattle.separating_article.specs.Openings.{run_of};
+ghost use Rattle.separating_article.specs.Sizes.{Spends, attribute_size, bytes, front_size, names_size};
 
 use jats_chars::{Name, Text};
 
@@ -71,4 +72,14 @@ pub fn spend_tags(left: u64, name: &Name, empty: bool) -> Option<u64>
     }
     let left = spend(left, 2)?;
     spend_text(left, name.text().as_slice())
+}
+
+/// Takes the byte of a run that stands in front of the elements, where there is one.
+pub fn spend_front(left: u64, front: Option<bool>) -> Option<u64>
+    ensures { Spends left (front_size (option_map run_of front)) result }
+{
+    match front {
+        None => Some(left),
+        Some(_) => spend(left, 1),
+    }
 }
