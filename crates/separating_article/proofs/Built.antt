@@ -1,9 +1,10 @@
 -- What a build answers, by the tree that is the chosen one.
-use Rattle.std.proofs.Common.{◌≡◌, ◌∙◌, ◌<◌, ◌≤◌, ℕ, List, [], Bool, sym, ap, subst, arith, Some, None, Result, Ok, Err, slice_get, IfSome}
+use Rattle.std.proofs.Common.{◌≡◌, ◌∙◌, ◌<◌, ◌≤◌, ℕ, List, [], Bool, sym, ap, subst, arith, Some, None, Result, Ok, Err, slice_get, IfSome, IsTrue}
+use Rattle.std.specs.Prelude.{is_some}
 use Rattle.content_models.specs.Model.{Chars}
 use Rattle.document_trees.specs.Trees.{Node, size}
 use Rattle.tree_costs.specs.Leasts.{place_of}
-use Rattle.tree_costs.proofs.Places.{stands_at}
+use Rattle.tree_costs.proofs.Places.{stands_at, has_place}
 use Rattle.decl_set.specs.Declarations.{Element}
 use Rattle.separating_article.specs.Building.{IsTree, HasTree, Begins, Tells}
 use Rattle.separating_article.specs.Growing.{Starts, Stands, IsUnderWay, Grown}
@@ -14,12 +15,23 @@ use Rattle.separating_article.specs.declared.fault.BuildOver.TheVariants.{TextOv
 use Rattle.separating_article.specs.declared.guide.Guide.{Guide}
 use Rattle.separating_article.specs.declared.growing.Started.{Started}
 use Rattle.separating_article.specs.declared.growing.Growing.{Growing}
+use Rattle.separating_article.proofs.Opened.{top_has}
 use Rattle.separating_article.proofs.UnderWay.{begun, begun_over}
 
 module _ (guide : Guide) (separates : Bool) (root : Chars) (limit : ℕ) (ok : IsGuide guide) where
   -- the element has a place
   pub at_place : (place : ℕ) → Some place ≡ place_of guide.first.now root → (x : Element) × (slice_get guide.first.now.elements place ≡ Some x)
   at_place place q = let t = stands_at guide.first.now root place (sym q) in ((root, t.0), t.2)
+
+  pub at_some : (place : ℕ) → Some place ≡ place_of guide.first.now root → IsTrue (is_some (slice_get guide.first.now.elements place))
+  at_some place q = ap is_some (at_place place q).1
+
+  pub no_place : None ≡ place_of guide.first.now root → HasTree guide separates root → ⊥
+  no_place q h =
+      let t = top_has guide separates root h.0.atts h.0.items h.1.0.1 in
+      let p = has_place guide.first.now root t.0 t.1 in
+      let e : None ≡ Some p.0 = q ∙ p.1 in
+      cc
 
   module _ (place : ℕ) (q : Some place ≡ place_of guide.first.now root) where
     -- nothing is started

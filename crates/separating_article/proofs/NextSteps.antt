@@ -171,6 +171,12 @@ step_same b j name =
 
 -- ---- along a path
 
+-- a chosen tree is one of a declared element
+pub chosen_has : (guide : Guide) (n : Chars) (atts : List Attribute) (inside : Items) → IsChosenTop guide.first.now guide.second.now guide.cap (costs_in guide) n atts inside
+    → (b : Content) × (content_in guide.first.now n ≡ Some b)
+chosen_has guide n atts inside (inl h) = (h.1.0, h.1.3)
+chosen_has guide n atts inside (inr h) = elim h.1 [ inl g ↦ (g.1.0, g.1.2) | inr g ↦ (g.2.0, g.2.1) ]
+
 module _ (guide : Guide) (ok : IsGuide guide) (e : ℕ) (name : Chars) (a : Content) (at : slice_get guide.first.now.elements e ≡ Some (name, a)) where
   pub placed : place_of guide.first.now name ≡ Some e
   placed = (is_at guide.first.now ok.first e (name, a) at).1
@@ -370,12 +376,6 @@ module _ (guide : Guide) (ok : IsGuide guide) (e : ℕ) (name : Chars) (a : Cont
 
   -- ---- along F
 
-  -- a chosen tree is one of a declared element
-  chosen_has : (n : Chars) (atts : List Attribute) (inside : Items) → IsChosenTop guide.first.now guide.second.now guide.cap (costs_in guide) n atts inside
-      → (b : Content) × (content_in guide.first.now n ≡ Some b)
-  chosen_has n atts inside (inl h) = (h.1.0, h.1.3)
-  chosen_has n atts inside (inr h) = elim h.1 [ inl g ↦ (g.1.0, g.1.2) | inr g ↦ (g.2.0, g.2.1) ]
-
   found_wrong : (i : ℕ) (s : C) → IsFirst (IsWrong i) s (steps_in guide.first.now a i) → find (attains guide e (Wrong i)) (steps_in guide.first.now a i) ≡ Some s
   found_wrong i s h = found_first (IsWrong i) (attains guide e (Wrong i)) s (steps_in guide.first.now a i) (wrong_to i) (wrong_from i) h
 
@@ -384,7 +384,7 @@ module _ (guide : Guide) (ok : IsGuide guide) (e : ℕ) (name : Chars) (a : Cont
   told_wrong i (element n atts inside later) h =
       elim h.2 [
         inl g ↦
-            let t = chosen_has n atts inside g.1 in
+            let t = chosen_has guide n atts inside g.1 in
             let here = here_from i (n, h.0) g.0 in
             told_by (Wrong i) (Own h.0) true (n, h.0) t.0 atts inside later t.1 refl (found_wrong i (n, h.0) h.1) here
             (ap (λ b. cond b (Own h.0) (Wrong h.0)) here) g.1 g.2

@@ -30,7 +30,7 @@ use Rattle.separating_article.specs.Growing.{IsNext, begun_node, begun_size}
 use Rattle.separating_article.specs.Openings.{is_by_odd, is_by_names, way_of, path_of, shown, att_of, values_by, is_plain_front, run_of, front_by, plain_front, front_of, atts_of}
 use Rattle.separating_article.specs.Paths.{IsTop, Follows}
 use Rattle.separating_article.specs.Sizes.{atts_size, front_size, names_size, is_empty, items_size}
-use Rattle.separating_article.proofs.NextSteps.{told_same, test_same, m_same, v_same, g_same, placed, told, empty_is}
+use Rattle.separating_article.proofs.NextSteps.{told_same, test_same, m_same, v_same, g_same, chosen_has, placed, told, empty_is}
 
 -- ---- what stands beside the elements
 
@@ -62,6 +62,12 @@ odd_front_same guide name odd.Undeclared = refl
 odd_front_same guide name odd.Text = front_same (content_in guide.first.now name) (content_in guide.second.now name)
 odd_front_same guide name (odd.Attribute o) = refl
 
+-- a chosen tree is one of a declared element
+pub top_has : (guide : Guide) (separates : Bool) (name : Chars) (atts : List Attribute) (items : Items) → IsTop guide separates name atts items
+    → (b : Content) × (content_in guide.first.now name ≡ Some b)
+top_has guide false name atts items h = (h.0, h.1)
+top_has guide true name atts items h = chosen_has guide name atts items h
+
 -- ---- a run in front
 
 put_empty : (front : Front) (items : Items) → is_empty (put front items) ≡ (is_none front && is_empty items)
@@ -77,9 +83,6 @@ put_joined None items = refl
 put_joined (Some run) items = refl
 
 -- ---- the way
-
-true_of : {A : Type 0} (o : Option A) → is_some o ≡ true → IsTrue (is_some o)
-true_of o h = subst IsTrue (sym h) tt
 
 refused : (b : Bool) → (b ≡ true → ⊥) → b ≡ false
 refused true n = absurd (n refl)
@@ -106,32 +109,24 @@ module _ (guide : Guide) (ok : IsGuide guide) (e : ℕ) (name : Chars) (a : Cont
 
   odd_from : ByOdd → is_by_odd guide e name ≡ true
   odd_from h = and_from (is_some (odd_in guide.first.now guide.second.now name)) (is_same (v_at guide.book (Some e)) (m_at guide.book (Some e)))
-      (is_true (is_some (odd_in guide.first.now guide.second.now name)) h.0)
+      h.0
       (test_same (v_at guide.book (Some e)) (m_at guide.book (Some e)) ((costs_in guide).v name) ((costs_in guide).m name) v_is m_is h.1)
-    where
-      is_true : (b : Bool) → IsTrue b → b ≡ true
-      is_true true h = refl
-      is_true false h = elim h [ ]
 
   odd_to : is_by_odd guide e name ≡ true → ByOdd
   odd_to h =
       let t = and_parts (is_some (odd_in guide.first.now guide.second.now name)) (is_same (v_at guide.book (Some e)) (m_at guide.book (Some e))) h in
-      (true_of (odd_in guide.first.now guide.second.now name) t.0,
+      (t.0,
       told_same (v_at guide.book (Some e)) (m_at guide.book (Some e)) ((costs_in guide).v name) ((costs_in guide).m name) v_is m_is t.1)
 
   names_from : ByNames → is_by_names guide e name ≡ true
   names_from h = and_from (is_some (content_in guide.second.now name)) (is_same (v_at guide.book (Some e)) (sum guide.cap (Fin 1) (g_at guide.book e 0 0)))
-      (is_true (is_some (content_in guide.second.now name)) h.0)
+      h.0
       (test_same (v_at guide.book (Some e)) (sum guide.cap (Fin 1) (g_at guide.book e 0 0)) ((costs_in guide).v name) (sum guide.cap (Fin 1) ((costs_in guide).g name 0 0)) v_is g_sum h.1)
-    where
-      is_true : (b : Bool) → IsTrue b → b ≡ true
-      is_true true h = refl
-      is_true false h = elim h [ ]
 
   names_to : is_by_names guide e name ≡ true → ByNames
   names_to h =
       let t = and_parts (is_some (content_in guide.second.now name)) (is_same (v_at guide.book (Some e)) (sum guide.cap (Fin 1) (g_at guide.book e 0 0))) h in
-      (true_of (content_in guide.second.now name) t.0,
+      (t.0,
       told_same (v_at guide.book (Some e)) (sum guide.cap (Fin 1) (g_at guide.book e 0 0)) ((costs_in guide).v name) (sum guide.cap (Fin 1) ((costs_in guide).g name 0 0)) v_is g_sum t.1)
 
   -- ---- the tree begins so

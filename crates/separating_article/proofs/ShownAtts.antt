@@ -1,13 +1,15 @@
 -- Attributes that are put behind others in turn.
-use Rattle.std.proofs.Common.{◌≡◌, ◌∙◌, ℕ, ◌+◌, List, [], ◌∷◌, ◌++◌, drop, refl, sym, ap, arith, append_assoc, Option, Some, None, Err, slice_get}
+use Rattle.std.proofs.Common.{◌≡◌, ◌∙◌, ℕ, ◌+◌, Bool, true, false, subst, List, [], ◌∷◌, ◌++◌, drop, refl, sym, ap, arith, append_assoc, Option, Some, None, Err, slice_get}
+use Rattle.std.specs.Char.{encode_utf8}
+use Rattle.std.specs.Prelude.{option_map}
 use Rattle.std.specs.Option.{option_map_or}
 use Rattle.document_trees.specs.Trees.{Attribute}
 use Rattle.attlist_merge.specs.Lists.{Definitions, Entry}
 use Rattle.attlist_merge.specs.Oddness.{chosen}
 use Rattle.attlist_merge.specs.declared.odd.OddAtt.{OddAtt}
 use Rattle.attlist_merge.proofs.Turns.{drop_step, drop_past}
-use Rattle.separating_article.specs.Openings.{value_at, values_by}
-use Rattle.separating_article.specs.Sizes.{atts_size}
+use Rattle.separating_article.specs.Openings.{run_of, value_at, values_by}
+use Rattle.separating_article.specs.Sizes.{Spends, atts_size, front_size}
 use Rattle.separating_article.specs.Growing.{PutsAtts}
 use Rattle.separating_article.specs.declared.fault.BuildOver.{BuildOver}
 use Rattle.separating_article.specs.declared.fault.BuildOver.TheVariants.{TextOver, NoMemory}
@@ -15,6 +17,15 @@ use Rattle.separating_article.specs.declared.fault.BuildOver.TheVariants.{TextOv
 pub atts_size-append : (x y : List Attribute) → atts_size (x ++ y) ≡ atts_size x + atts_size y
 atts_size-append [] y = omega arith
 atts_size-append (a ∷ x) y = let h = atts_size-append x y in omega (arith, h)
+
+-- a run in front has one byte
+front_one : (plain : Bool) → front_size (option_map run_of (Some plain)) ≡ 1
+unfolding encode_utf8
+front_one true = refl
+front_one false = refl
+
+pub front_spent : (left : ℕ) (front : Option Bool) (plain : Bool) (r : Option ℕ) → front ≡ Some plain → Spends left 1 r → Spends left (front_size (option_map run_of front)) r
+front_spent left front plain r is h = subst (λ n. Spends left n r) (sym (ap (λ o. front_size (option_map run_of o)) is ∙ front_one plain)) h
 
 module _ (odd : Option OddAtt) where
   -- those of the definition at a place

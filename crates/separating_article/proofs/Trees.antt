@@ -45,19 +45,12 @@ filled : (text : List ℕ) → is_filled text ≡ true → text ≡ [] → ⊥
 filled [] h q = cc
 filled (c ∷ text) h q = cc
 
-true_of : (b : Bool) → IsTrue b → b ≡ true
-true_of true h = refl
-true_of false h = elim h [ ]
-
-is_true : (b : Bool) → b ≡ true → IsTrue b
-is_true b q = subst IsTrue (sym q) tt
-
 -- runs that can be written and no more open elements than there may be
 writable : (around : ℕ) (items : Items) → are_written items ≡ true → EachBelow IsWritten items → around + depth items ≤ 2048 → AreWritable around items
 writable around nothing h e l = tt
 writable around (element name atts inside later) h e l = (
   omega arith,
-  writable (suc around) inside (true_of (are_written inside) e.0.1) e.1 (omega arith),
+  writable (suc around) inside e.0.1 e.1 (omega arith),
   writable around later h e.2 (omega arith),
 )
 writable around (chars text true later) h e l =
@@ -66,7 +59,7 @@ writable around (chars text true later) h e l =
     let c = and_parts (not (has_cr text)) (not (begins_run later) && are_written later) b.1 in
     let d = and_parts (not (begins_run later)) (are_written later) c.1 in (
       filled text b.0,
-      is_true (has_no_return text) (no_return text (not_both (has_cr text) c.0)),
+      no_return text (not_both (has_cr text) c.0),
       apart later (not_both (begins_run later) d.0),
       writable around later d.1 e l,
     )
@@ -80,7 +73,7 @@ built_writable : (open_ones : ℕ) (set : Declarations) (e : Chars) (n : ℕ) (n
 built_writable open_ones set e n node few b =
     let shallow = b.shallow in
     let w = b.written in
-    (b.document, writable 1 node.items (true_of (are_written node.items) w.0.1) w.1 (omega (arith, few, shallow)))
+    (b.document, writable 1 node.items w.0.1 w.1 (omega (arith, few, shallow)))
 
 -- ---- least articles
 

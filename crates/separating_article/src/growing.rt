@@ -69,7 +69,7 @@ fn start_by(
     left: u64,
 ) -> Result<(Started, u64), BuildOver>
     requires { IsGuide guide.now }
-    ensures { spec.StartsBy guide.now chosen.name.now chosen.place chosen.way (step_of guide.now chosen.place (path_in chosen.way)) left result }
+    ensures { spec.StartsBy guide.now chosen.entry.name.now chosen.entry.place chosen.entry.way (step_of guide.now chosen.entry.place (path_in chosen.entry.way)) left result }
 {
     let Chosen { name, place, way } = chosen;
     let step = next_step(guide, place, path_of(way));
