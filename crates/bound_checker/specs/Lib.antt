@@ -1,6 +1,5 @@
 pub mod Beside
 pub mod Tabled
-pub mod Ascending
 pub mod Kinds
 pub mod Laws
 pub mod Tests

@@ -29,6 +29,10 @@ row_of first tables e = option_and_then (slice_get tables.rows) (position (λ x.
 abbrev pub state_of : Row → ℕ → Option StateRow
 state_of row i = slice_get row.states i
 
+-- the states of a pair
+abbrev pub states_of : PairRow → ℕ × ℕ
+states_of pair = (pair.i, pair.j)
+
 abbrev pub is_pair : ℕ → ℕ → PairRow → Bool
 is_pair i j pair = pair.i == i && pair.j == j
 

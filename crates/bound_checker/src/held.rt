@@ -2,7 +2,6 @@
 
 ghost use Rattle.std.specs.Prelude.{◌≡◌, find, option_map, Some};
 ghost use Rattle.std.specs.Option.{option_copied, option_map_or};
-ghost use Rattle.bound_checker.specs.Ascending.{is_below};
 ghost use Rattle.bound_checker.specs.Tabled.{AreAscending, is_pair, row_of};
 ghost use Rattle.tree_costs.specs.declared.cost.Cost.TheVariants.{Inf};
 
@@ -24,40 +23,15 @@ pub struct Held<'a> {
     pub row: &'a Row,
 }
 
-/// Whether the pair comes before the states i and j.
-fn comes_before(pair: &PairRow, i: u32, j: u32) -> bool
-    ensures { result ≡ is_below pair.now i j }
-{
-    pair.i < i || pair.i == i && pair.j < j
-}
-
-/// Whether the pair is of the states i and j.
-fn is_at(pair: &PairRow, i: u32, j: u32) -> bool
-    ensures { result ≡ is_pair i j pair.now }
-{
-    pair.i == i && pair.j == j
-}
-
 /// The cost G of the pair (i, j) among pairs that ascend, or None exactly where it is not listed. It is sought by halves.
 pub fn listed_cost(pairs: &[PairRow], i: u32, j: u32) -> Option<Cost>
     requires { AreAscending pairs.now }
     ensures { result ≡ option_map (λ s. s.g) (find (is_pair i j) pairs.now) }
 {
-    let mut low = 0;
-    let mut high = pairs.len();
-    while low < high {
-        let middle = low + (high - low) / 2;
-        let pair = pairs[middle];
-        if is_at(&pair, i, j) {
-            return Some(pair.g);
-        }
-        if comes_before(&pair, i, j) {
-            low = middle + 1;
-        } else {
-            high = middle;
-        }
+    match pairs.binary_search_by_key(&(i, j), |pair| (pair.i, pair.j)) {
+        Err(_) => None,
+        Ok(at) => Some(pairs[at].g),
     }
-    None
 }
 
 /// What m says of a name: none where it has no row.

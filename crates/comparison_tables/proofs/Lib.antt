@@ -22,3 +22,4 @@ pub mod Growing
 pub mod Small
 pub mod Tabled
 pub mod Outcomes
+pub mod TheTables

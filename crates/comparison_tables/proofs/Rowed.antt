@@ -5,8 +5,8 @@ use Rattle.model_inclusion.specs.Listed.{Precedes, IsAscending}
 use Rattle.tree_costs.specs.declared.cost.Cost.{Cost}
 use Rattle.bound_checker.specs.declared.tables.StateRow.{StateRow}
 use Rattle.bound_checker.specs.declared.tables.PairRow.{PairRow}
-use Rattle.bound_checker.specs.Tabled.{is_pair, IsBefore, AreAscending}
-use Rattle.comparison_tables.specs.Outcome.{states_of}
+use Rattle.bound_checker.specs.Tabled.{states_of, is_pair, IsBefore, AreAscending}
+use Rattle.bound_checker.proofs.Halves.{all_got}
 use Rattle.comparison_tables.specs.Rows.{state_row, state_rows, pair_row, pair_rows}
 use Rattle.comparison_tables.specs.Sides.{is_at}
 use Rattle.comparison_tables.proofs.Halves.{at_is, is_own}
@@ -74,11 +74,6 @@ module _ (n : ℕ) (copy : List Cost) where
   find_none i j at (p ∷ pairs) h =
       ap (λ b. cond b (Some (pair_row n copy at p)) (find (is_pair i j) (pair_rows n copy (suc at) pairs))) (h 0 p refl)
       ∙ find_none i j (suc at) pairs (λ l y q. h (suc l) y q)
-
-  all_got : {X : Type 0} (Q : X → Type 0) (xs : List X) (k : ℕ) (x : X) → AllByRecursion Q xs → slice_get xs k ≡ Some x → Q x
-  all_got Q [] k x h q = cc
-  all_got Q (y ∷ xs) zero x h q = let same : y ≡ x = cc in subst Q same h.0
-  all_got Q (y ∷ xs) (suc k) x h q = all_got Q xs k x h.1 q
 
   apart : (i j : ℕ) (p : ℕ × ℕ) → Precedes p (i, j) → is_at i j p ≡ false
   apart i j p h = by (is_at i j p) refl

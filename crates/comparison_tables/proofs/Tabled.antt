@@ -22,14 +22,14 @@ use Rattle.bound_checker.specs.declared.tables.StateRow.{StateRow}
 use Rattle.bound_checker.specs.declared.tables.PairRow.{PairRow}
 use Rattle.bound_checker.specs.declared.tables.Row.{Row}
 use Rattle.bound_checker.specs.declared.tables.Tables.{Tables}
-use Rattle.bound_checker.specs.Tabled.{Costs, costs_of, row_of, is_pair, IsPair, FitsRow, FitRows}
+use Rattle.bound_checker.specs.Tabled.{Costs, costs_of, row_of, states_of, is_pair, IsPair, FitsRow, FitRows}
 use Rattle.exact_tables.specs.Families.{IsListed, IsExact}
 use Rattle.exact_tables.specs.Comparing.{Elem, Plain, Copy, State, AreTables}
 use Rattle.exact_tables.specs.Comparing as to
 use Rattle.exact_tables.proofs.NumberedTables.{numbered_is_exact}
 use Rattle.comparison_tables.specs.declared.sides.Side.{Side}
 use Rattle.comparison_tables.specs.Kinds.{wrong_number, pair_number}
-use Rattle.comparison_tables.specs.Outcome.{ListPairs, HaveExactCosts, states_of}
+use Rattle.comparison_tables.specs.Outcome.{ListPairs, HaveExactCosts}
 use Rattle.comparison_tables.specs.Plans.{own_states, states_of_copy, known_of, plan_of, numbers_of}
 use Rattle.comparison_tables.specs.Rows.{cost_at, state_rows, pair_rows, row_from, IsRowOf, AreRows}
 use Rattle.comparison_tables.specs.Sides.{ArePairsOf, AreSides, Known, known, is_at}

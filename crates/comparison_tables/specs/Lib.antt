@@ -1,7 +1,6 @@
 pub mod Kinds
 pub mod Sides
 pub mod Shapes
-pub mod Places
 pub mod Finding
 pub mod Holding
 pub mod Copies
@@ -9,4 +8,5 @@ pub mod Plans
 pub mod Standing
 pub mod Rows
 pub mod Outcome
+pub mod Exact
 pub mod Laws

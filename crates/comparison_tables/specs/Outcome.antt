@@ -3,18 +3,13 @@ use Rattle.std.specs.Prelude.{◌≡◌, ◌≤◌, ℕ, List, [], ◌∷◌, ma
 use Rattle.content_models.specs.Model.{Chars}
 use Rattle.decl_set.specs.Declarations.{Declarations, Element, content_in}
 use Rattle.tagset_report.specs.Reported.{SumsPairs, PassesAt}
-use Rattle.bound_checker.specs.declared.tables.PairRow.{PairRow}
 use Rattle.bound_checker.specs.declared.tables.Row.{Row}
 use Rattle.bound_checker.specs.declared.tables.Tables.{Tables}
-use Rattle.bound_checker.specs.Tabled.{Fits, FitRows, costs_of}
+use Rattle.bound_checker.specs.Tabled.{Fits, FitRows, costs_of, states_of}
 use Rattle.exact_tables.specs.Families.{IsExact}
 use Rattle.comparison_tables.specs.declared.fault.TablesFault.{TablesFault}
 use Rattle.comparison_tables.specs.declared.fault.TablesFault.TheVariants.{PairsOver, NoMemory}
 use Rattle.comparison_tables.specs.Sides.{ArePairsOf}
-
--- the states of a pair
-abbrev pub states_of : PairRow → ℕ × ℕ
-states_of pair = (pair.i, pair.j)
 
 -- the pairs of each row are the listed ones
 abbrev pub ListPairs : Declarations → Declarations → List Element → List Row → Type 0

@@ -16,7 +16,7 @@ use Rattle.tagset_report.proofs.Broken.{one_broken}
 
 -- ---- counts are one
 
-listed_once : (first : Declarations) (a b : Content) (ps qs : List (ℕ × ℕ)) → AreListed first a b ps → AreListed first a b qs → ps ≡ qs
+pub listed_once : (first : Declarations) (a b : Content) (ps qs : List (ℕ × ℕ)) → AreListed first a b ps → AreListed first a b qs → ps ≡ qs
 listed_once first a b ps qs p q =
     same_pairs ps qs p.ascending q.ascending
     (λ r m. to_member qs r ((q.listed r.0 r.1).1 ((p.listed r.0 r.1).0 (contains_of ps r m))))

@@ -1,41 +1,25 @@
-use Rattle.std.proofs.Common.{◌+◌, ◌-◌, ◌/◌, ◌<◌, length, arith, slice_index_or, sym, ◌∙◌}
-use Rattle.std.proofs.lemmas.Option.{slice_get-get_or}
+use Rattle.std.proofs.Common.{rules, Some, Ok, Err, ap, ◌∙◌}
+use Rattle.std.proofs.lemmas.List.Sorted.{answers_always}
+use Rattle.std.proofs.lemmas.Option.{get_or_from_slice_get}
 use Rattle.tree_costs.specs.declared.cost.Cost.TheVariants.{Fin}
 use Rattle.bound_checker.specs.declared.tables.PairRow.{PairRow}
-use Rattle.bound_checker.proofs.Halves.{more_below, more_above, none_found, some_found}
+use Rattle.bound_checker.specs.Tabled.{states_of}
+use Rattle.bound_checker.proofs.Halves.{by_states, searched, some_found, none_found}
 use Rattle.bound_checker.proofs.held.listed_cost.Goals as goal
 
 abbrev none_row : PairRow
 none_row = record { i = 0; j = 0; g = Fin 0 }
 
-pub returns-then-is_at : goal.returns-then-is_at
-returns-then-is_at c =
-    let middle = c.loop-low.low + (c.loop-low.high - c.loop-low.low) / 2 in
-    let within : middle < length c.args.pairs.now = omega arith in
-    some_found c.args.pairs.now c.args.i c.args.j middle (slice_index_or c.args.pairs.now middle none_row) c.requires
-    (slice_get-get_or c.args.pairs.now middle none_row within) (sym c.is_at.ensures ∙ c.if-is_at.true)
+pub returns-in-Ok : goal.returns-in-Ok
+returns-in-Ok c =
+    let pairs = c.args.pairs.now in
+    let found = searched states_of pairs (c.args.i, c.args.j) (Ok c.in-Ok.at) (by_states pairs c.requires) c.in-Ok.ensures.bound
+    (c.in-Ok.ensures.position states_of (answers_always _ _ _ (λ f a r g called. search rules))) in
+    ap (λ (x : PairRow). Some x.g) (get_or_from_slice_get pairs c.in-Ok.at found.0 none_row found.1) ∙ some_found pairs c.args.i c.args.j c.in-Ok.at found.0 c.requires found.1 found.2
 
-pub loop-low-preserved-then-comes_before : goal.loop-low-preserved-then-comes_before
-loop-low-preserved-then-comes_before c =
-    let middle = c.loop-low.low + (c.loop-low.high - c.loop-low.low) / 2 in
-    let within : middle < length c.args.pairs.now = omega arith in
-    record {
-      within = c.loop-low.invariant.within;
-      below = more_below c.args.pairs.now c.args.i c.args.j middle (slice_index_or c.args.pairs.now middle none_row) c.requires
-          (slice_get-get_or c.args.pairs.now middle none_row within) (sym c.comes_before.ensures ∙ c.if-comes_before.true);
-      above = c.loop-low.invariant.above;
-    }
-
-pub loop-low-preserved : goal.loop-low-preserved
-loop-low-preserved c =
-    let middle = c.loop-low.low + (c.loop-low.high - c.loop-low.low) / 2 in
-    let within : middle < length c.args.pairs.now = omega arith in
-    record {
-      within = omega arith;
-      below = c.loop-low.invariant.below;
-      above = more_above c.args.pairs.now c.args.i c.args.j middle (slice_index_or c.args.pairs.now middle none_row) c.requires
-          (slice_get-get_or c.args.pairs.now middle none_row within) (sym c.is_at.ensures ∙ c.if-is_at.false) (sym c.comes_before.ensures ∙ c.if-comes_before.false);
-    }
-
-pub returns : goal.returns
-returns c = none_found c.args.pairs.now c.args.i c.args.j c.loop-low.low c.loop-low.high c.loop-low.invariant.below c.loop-low.invariant.above c.loop-low-test.false
+pub returns-in-Err : goal.returns-in-Err
+returns-in-Err c =
+    let pairs = c.args.pairs.now in
+    none_found pairs c.args.i c.args.j
+    (searched states_of pairs (c.args.i, c.args.j) (Err c.in-Err.field-0) (by_states pairs c.requires) c.in-Err.ensures.bound
+    (c.in-Err.ensures.position states_of (answers_always _ _ _ (λ f a r g called. search rules))))
