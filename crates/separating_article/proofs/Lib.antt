@@ -5,5 +5,6 @@ pub mod NextSteps
 pub mod Opened
 pub mod UnderWay
 pub mod Stepped
+pub mod Starting
 pub mod Built
 pub mod Answered

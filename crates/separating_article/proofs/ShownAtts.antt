@@ -1,6 +1,7 @@
 -- Attributes that are put behind others in turn.
 use Rattle.std.proofs.Common.{◌≡◌, ◌∙◌, ℕ, ◌+◌, Bool, true, false, subst, List, [], ◌∷◌, ◌++◌, drop, refl, sym, ap, arith, append_assoc, Option, Some, None, Err, slice_get}
 use Rattle.std.specs.Char.{encode_utf8}
+use Rattle.jats_chars.specs.Classes.{is_space}
 use Rattle.std.specs.Prelude.{option_map}
 use Rattle.std.specs.Option.{option_map_or}
 use Rattle.document_trees.specs.Trees.{Attribute}
@@ -20,7 +21,7 @@ atts_size-append (a ∷ x) y = let h = atts_size-append x y in omega (arith, h)
 
 -- a run in front has one byte
 front_one : (plain : Bool) → front_size (option_map run_of (Some plain)) ≡ 1
-unfolding encode_utf8
+unfolding encode_utf8 is_space
 front_one true = refl
 front_one false = refl
 

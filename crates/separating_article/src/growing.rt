@@ -7,14 +7,16 @@ ghost use Rattle.tree_costs.specs.Beside.{put};
 ghost use Rattle.separating_article.specs.Choosing.{next_step as step_of};
 ghost use Rattle.separating_article.specs.Growing as spec;
 ghost use Rattle.separating_article.specs.Guides.{IsGuide};
-ghost use Rattle.separating_article.specs.Openings.{path_of as path_in, run_of};
+ghost use Rattle.separating_article.specs.Openings.{path_of as path_in, run_of, shown as shown_of};
+ghost use Rattle.std.specs.Option.{option_copied};
 
 use crate::BuildOver;
 use crate::choosing::{Step, next_step};
 use crate::guide::Guide;
 use crate::opening::{Way, att_of, path_of, plain_front, shown, way_of};
 use crate::required::put_all;
-use crate::spending::{spend_front, spend_tags};
+use crate::spending::spend_start;
+use decl_set::Odd;
 use document_trees::{AttValues, Item, ItemList, Node};
 use jats_chars::{Name, NoMemory, Text};
 use std::alloc::Global;
@@ -53,6 +55,19 @@ fn front_items(alloc: Global, front: Option<bool>) -> Result<ItemList, NoMemory>
     Ok(items)
 }
 
+/// An element with these attributes and this run in front.
+fn bare_node(
+    alloc: Global,
+    name: &Name,
+    atts: AttValues,
+    front: Option<bool>,
+) -> Result<Node, NoMemory>
+    ensures { IfOk result (λ node. node ≡ record { name = name.now; atts = atts; items = put (option_map run_of front) nothing }) }
+{
+    let items = front_items(alloc, front)?;
+    Ok(Node::new(name.copy(alloc)?, atts, items))
+}
+
 /// An element that is chosen this way, with its name and the place of its declaration.
 #[derive(Clone, Copy)]
 struct Chosen<'a> {
@@ -61,7 +76,37 @@ struct Chosen<'a> {
     way: Way,
 }
 
-/// Starts an element: takes the bytes of its tags and of what stands beside its elements, and then makes it.
+/// Starts an element of which this is shown: takes the bytes of its tags and of what stands beside its elements, and then
+/// makes it.
+fn start_shown(
+    alloc: Global,
+    guide: &Guide,
+    chosen: Chosen,
+    odd: Option<&Odd>,
+    left: u64,
+) -> Result<(Started, u64), BuildOver>
+    requires guide { IsGuide guide.now }
+    requires odd { option_copied odd ≡ shown_of guide.now chosen.name.now chosen.way }
+    ensures { spec.StartsBy guide.now chosen.entry.name.now chosen.entry.place chosen.entry.way (step_of guide.now chosen.entry.place (path_in chosen.entry.way)) left result }
+{
+    let Chosen { name, place, way } = chosen;
+    let step = next_step(guide, place, path_of(way));
+    let front = plain_front(guide, name, odd);
+    let left = match spend_start(left, name, front, step) {
+        None => return Err(BuildOver::TextOver),
+        Some(left) => left,
+    };
+    let mut atts = AttValues::new(alloc);
+    let list = guide.first.atts_of(name);
+    let left = match put_all(alloc, &mut atts, left, att_of(odd), list) {
+        Err(over) => return Err(over),
+        Ok(left) => left,
+    };
+    let node = bare_node(alloc, name, atts, front)?;
+    Ok((Started { place, node, step }, left))
+}
+
+/// Starts an element that is chosen this way.
 fn start_by(
     alloc: Global,
     guide: &Guide,
@@ -71,27 +116,8 @@ fn start_by(
     requires { IsGuide guide.now }
     ensures { spec.StartsBy guide.now chosen.entry.name.now chosen.entry.place chosen.entry.way (step_of guide.now chosen.entry.place (path_in chosen.entry.way)) left result }
 {
-    let Chosen { name, place, way } = chosen;
-    let step = next_step(guide, place, path_of(way));
-    let odd = shown(alloc, guide, name, way)?;
-    let front = plain_front(guide, name, odd.as_ref());
-    let left = match spend_tags(left, name, front.is_none() && step.is_none()) {
-        None => return Err(BuildOver::TextOver),
-        Some(left) => left,
-    };
-    let left = match spend_front(left, front) {
-        None => return Err(BuildOver::TextOver),
-        Some(left) => left,
-    };
-    let mut atts = AttValues::new(alloc);
-    let list = guide.first.atts_of(name);
-    let left = match put_all(alloc, &mut atts, left, att_of(odd.as_ref()), list) {
-        Err(over) => return Err(over),
-        Ok(left) => left,
-    };
-    let items = front_items(alloc, front)?;
-    let node = Node::new(name.copy(alloc)?, atts, items);
-    Ok((Started { place, node, step }, left))
+    let odd = shown(alloc, guide, chosen.name, chosen.way)?;
+    start_shown(alloc, guide, chosen, odd.as_ref(), left)
 }
 
 /// Starts the element at a place, by whether its tree separates.

@@ -63,7 +63,7 @@ fn put_chosen(
     odd: Option<&OddAtt>,
     entry: (&Name, &Definition),
 ) -> Result<u64, BuildOver>
-    requires { IsSound (entry.entry.0.now, entry.entry.1.now) }
+    requires { IsSound (entry.0.now, entry.1.now) }
     ensures { PutsAtts atts.old atts.new left (chosen (value_of (option_copied odd.entry) entry.entry.0.now) (entry.entry.0.now, entry.entry.1.now)) result }
 {
     match value_at(odd, entry.0) {
