@@ -75,13 +75,13 @@ module _ (first second : Declarations) where
       by e (inr (inr t)) = inr (inr (t.0, ap (λ (w : Element). w ∷ ys) e.0 ∙ ap (λ (w : List Element). z ∷ w) t.1))
 
   -- what passes at an element does not stay within after it
-  not_later : (name : Chars) (p : PassesAt first second name) (others rest : List Element) (m : ℕ) → others ≡ p.before ++ (name, p.declared) ∷ rest → SumsPairs first second others m
+  pub not_later : (name : Chars) (p : PassesAt first second name) (others rest : List Element) (m : ℕ) → others ≡ p.before ++ (name, p.declared) ∷ rest → SumsPairs first second others m
       → m ≤ 2000000 → ⊥
   not_later name p others rest m e s l =
       let k = past_sum p.before (name, p.declared) rest p.sum p.more m p.sums p.counts (subst (λ (z : List Element). SumsPairs first second z m) e s) in
       omega (arith, k, l, p.over)
 
-  passes_once : (n m : Chars) → PassesAt first second n → PassesAt first second m → n ≡ m
+  pub passes_once : (n m : Chars) → PassesAt first second n → PassesAt first second m → n ≡ m
   unfolding Apart
   passes_once n m p q = by (apart p.before (n, p.declared) p.after q.before (m, q.declared) q.after (sym p.place ∙ q.place))
     where
