@@ -1,20 +1,18 @@
 -- What is answered by the least tree, and by the chosen separating one.
-use Rattle.std.proofs.Common.{◌≡◌, ◌∙◌, ◌<◌, ◌≤◌, ℕ, Bool, true, false, List, [], ◌∷◌, sym, ap, subst, Some, None, Result, Ok, Err}
+use Rattle.std.proofs.Common.{◌<◌, ◌≤◌, ℕ, List, [], ◌∷◌, sym, subst, Result, Ok, Err}
 use Rattle.std.specs.List.{AllByRecursion}
 use Rattle.content_models.specs.Model.{Chars}
 use Rattle.document_trees.specs.Trees.{Node, size}
 use Rattle.decl_set.specs.Asked.{IsKept}
 use Rattle.decl_set.specs.Declarations.{Declarations, Element}
-use Rattle.tree_costs.specs.declared.cost.Cost.TheVariants.{Fin, Inf}
 use Rattle.tree_costs.specs.declared.least.Least.{Least}
-use Rattle.tree_costs.specs.Leasts.{place_of, m_of, IsExact}
+use Rattle.tree_costs.specs.Leasts.{IsExact}
 use Rattle.bound_checker.specs.declared.tables.Tables.{Tables}
 use Rattle.bound_checker.specs.declared.tables.Row.{Row}
-use Rattle.bound_checker.specs.Tabled.{Fits, FitRows, AreAscending}
+use Rattle.bound_checker.specs.Tabled.{FitRows, AreAscending}
 use Rattle.separating_article.specs.Articles.{HasLeast, IsLeastOf, text_size, Builds}
 use Rattle.separating_article.specs.Separating.{HasSeparating, AreExact, IsChosenOf, Separates}
 use Rattle.separating_article.specs.Building.{TellsOf}
-use Rattle.separating_article.specs.Sizes.{written_size}
 use Rattle.separating_article.specs.declared.fault.BuildOver.{BuildOver}
 use Rattle.separating_article.specs.declared.fault.BuildOver.TheVariants.{TextOver, NoMemory}
 use Rattle.separating_article.proofs.TextSizes.{size_of_text}

@@ -1,12 +1,11 @@
 -- What a build answers, by the tree that is the chosen one.
-use Rattle.std.proofs.Common.{◌≡◌, ◌∙◌, ◌<◌, ◌≤◌, ℕ, List, [], Bool, sym, ap, subst, arith, Some, None, Result, Ok, Err, slice_get, IfSome, IsTrue}
+use Rattle.std.proofs.Common.{◌≡◌, ◌∙◌, ◌≤◌, ℕ, List, [], Bool, sym, ap, subst, arith, Some, None, Ok, Err, slice_get, IfSome, IsTrue}
 use Rattle.std.specs.Prelude.{is_some}
 use Rattle.content_models.specs.Model.{Chars}
-use Rattle.document_trees.specs.Trees.{Node, size}
 use Rattle.tree_costs.specs.Leasts.{place_of}
 use Rattle.tree_costs.proofs.Places.{stands_at, has_place}
 use Rattle.decl_set.specs.Declarations.{Element}
-use Rattle.separating_article.specs.Building.{IsTree, HasTree, Begins, Tells}
+use Rattle.separating_article.specs.Building.{HasTree, Begins, Tells}
 use Rattle.separating_article.specs.Growing.{Starts, Stands, IsUnderWay, Grown}
 use Rattle.separating_article.specs.Guides.{IsGuide}
 use Rattle.separating_article.specs.Sizes.{written_size}

@@ -1,8 +1,8 @@
 -- The step that is taken is that of the chosen trees.
-use Rattle.std.proofs.Common.{◌≡◌, ◌∙◌, ◌≤◌, ◌<◌, ℕ, zero, suc, ◌+◌, List, [], ◌∷◌, Bool, true, false, cond, not, ◌&&◌, ◌||◌, ◌⊎◌, find, length, drop, refl, sym, ap, subst, arith, inl, inr, ⊎_elim, Option, Some, None, slice_get}
+use Rattle.std.proofs.Common.{◌≡◌, ◌∙◌, ◌≤◌, ℕ, zero, suc, ◌+◌, List, [], ◌∷◌, Bool, true, false, cond, not, ◌&&◌, ◌||◌, find, length, drop, refl, sym, ap, subst, arith, inl, inr, ⊎_elim, Option, Some, None, slice_get}
 use Rattle.std.specs.Prelude.{nat_lt, is_none, option_map, option_and_then}
 use Rattle.std.specs.Option.{option_map_or}
-use Rattle.std.proofs.lemmas.Bool.{both_ways, and_from, and_parts, lt-ltb, ltb-true, or_cases}
+use Rattle.std.proofs.lemmas.Bool.{both_ways, and_from, and_parts, lt-ltb, or_cases}
 use Rattle.attribute_types.proofs.TextTests.{on_test}
 use Rattle.attlist_merge.proofs.Turns.{drop_step, drop_all}
 use Rattle.content_models.specs.declared.content.Content.{Content}
@@ -12,7 +12,7 @@ use Rattle.position_automata.specs.Automata.{states, Accepts}
 use Rattle.position_automata.specs.Stepping.{does_accept, step_on}
 use Rattle.position_automata.proofs.Stepping.{accept_within, step_within, on_to}
 use Rattle.decl_set.specs.Asked.{IsKept}
-use Rattle.decl_set.specs.Declarations.{Declarations, Element, name_of, content_in, attributes_in}
+use Rattle.decl_set.specs.Declarations.{Declarations, Element, name_of, content_in}
 use Rattle.decl_set.specs.Steps.{steps_in, steps_at}
 use Rattle.decl_set.proofs.Found.{found_at}
 use Rattle.tree_costs.specs.declared.cost.Cost.{Cost}
@@ -23,8 +23,8 @@ use Rattle.tree_costs.proofs.Costs.{order_to, order_from, at_most-refl, at_most-
 use Rattle.tree_costs.proofs.Places.{has_place, is_at}
 use Rattle.bound_checker.proofs.Stepping.{accept_to, accept_from, few}
 use Rattle.bound_checker.specs.Tabled.{is_pair, state_of}
-use Rattle.exact_tables.specs.LeastTrees.{IsFirst, AttainsLeast, IsLeastTop, LeastFrom}
-use Rattle.exact_tables.specs.Chosen.{past, AttainsOdd, StopsOdd, OddFrom, AttainsKind3, AttainsKind4, AttainsWrong, WrongFrom, ChosenBy, IsChosenTop}
+use Rattle.exact_tables.specs.LeastTrees.{IsFirst, AttainsLeast}
+use Rattle.exact_tables.specs.Chosen.{past, AttainsOdd, StopsOdd, AttainsKind3, AttainsKind4, AttainsWrong, IsChosenTop}
 use Rattle.separating_article.specs.declared.choosing.Path.{Path}
 use Rattle.separating_article.specs.declared.choosing.Path.TheVariants.{Own, Wrong, Pair}
 use Rattle.separating_article.specs.declared.choosing.Step.{Step}
@@ -318,9 +318,11 @@ module _ (guide : Guide) (ok : IsGuide guide) (e : ℕ) (name : Chars) (a : Cont
     stops_to : (i j : ℕ) → ends guide e (Pair i j) ≡ true → Stops i j
     stops_to i j h =
         let t = and_parts (is_same (g_at guide.book e i j) (Fin 0)) (accepts_in (own_content guide e) i && not (accepts_in (other_content guide e) j)) h in
-        let u = and_parts (accepts_in (own_content guide e) i) (not (accepts_in (other_content guide e) j)) t.1 in
-        (sym (g_is i j) ∙ same_to (g_at guide.book e i j) (Fin 0) t.0, accepts_told a i (sym (accepts_own i) ∙ u.0),
-        λ acc. not_told (accepts_in (other_content guide e) j) u.1 (accepts_other j ∙ accepts_is b j acc))
+        let u = and_parts (accepts_in (own_content guide e) i) (not (accepts_in (other_content guide e) j)) t.1 in (
+          sym (g_is i j) ∙ same_to (g_at guide.book e i j) (Fin 0) t.0,
+          accepts_told a i (sym (accepts_own i) ∙ u.0),
+          λ acc. not_told (accepts_in (other_content guide e) j) u.1 (accepts_other j ∙ accepts_is b j acc),
+        )
 
     stops_not : (i j : ℕ) → (Stops i j → ⊥) → ends guide e (Pair i j) ≡ false
     stops_not i j nay = refused (ends guide e (Pair i j)) (λ h. nay (stops_to i j h))
@@ -358,9 +360,17 @@ module _ (guide : Guide) (ok : IsGuide guide) (e : ℕ) (name : Chars) (a : Cont
   told_by path behind wrong s b atts inside later has off found is_wrong is_behind top follows =
       let t = has_place guide.first.now s.0 b has in
       by_step path (element s.0 atts inside later) (Some (record { place = t.0; separates = has_wrong guide e path s; path = path_behind guide e path s }))
-      (some_next path s t.0 off (first_is path s found) t.1)
-      (s.0, b, atts, inside, later, refl, t.2, subst (λ w. IsTop guide w s.0 atts inside) (sym is_wrong) top,
-      subst (λ p. Follows guide p name a later) (sym is_behind) follows)
+      (some_next path s t.0 off (first_is path s found) t.1) (
+        s.0,
+        b,
+        atts,
+        inside,
+        later,
+        refl,
+        t.2,
+        subst (λ w. IsTop guide w s.0 atts inside) (sym is_wrong) top,
+        subst (λ p. Follows guide p name a later) (sym is_behind) follows,
+      )
 
   -- ---- along P
 
@@ -383,12 +393,12 @@ module _ (guide : Guide) (ok : IsGuide guide) (e : ℕ) (name : Chars) (a : Cont
   told_wrong i nothing h = elim h [ ]
   told_wrong i (element n atts inside later) h =
       elim h.2 [
-        inl g ↦
+        | inl g ↦
             let t = chosen_has guide n atts inside g.1 in
             let here = here_from i (n, h.0) g.0 in
             told_by (Wrong i) (Own h.0) true (n, h.0) t.0 atts inside later t.1 refl (found_wrong i (n, h.0) h.1) here
             (ap (λ b. cond b (Own h.0) (Wrong h.0)) here) g.1 g.2
-      | inr g ↦
+        | inr g ↦
             let off = here_not i (n, h.0) g.0 in
             told_by (Wrong i) (Wrong h.0) false (n, h.0) g.1.0 atts inside later g.1.1 refl (found_wrong i (n, h.0) h.1) off
             (ap (λ b. cond b (Own h.0) (Wrong h.0)) off) g.1 g.2
@@ -407,9 +417,9 @@ module _ (guide : Guide) (ok : IsGuide guide) (e : ℕ) (name : Chars) (a : Cont
       let found = found_first (IsOdd b h.1 i j) (attains guide e (Pair i j)) (n, g.0) (steps_in guide.first.now a i) (odd_to b h.1 i j) (odd_from b h.1 i j) g.2 in
       let off = stops_not b h.1 i j g.1 in
       elim g.4 [
-        inl w ↦ told_by (Pair i j) (Pair g.0 w.0) false (n, g.0) g.3.0 atts inside later g.3.1 off found refl
+        | inl w ↦ told_by (Pair i j) (Pair g.0 w.0) false (n, g.0) g.3.0 atts inside later g.3.1 off found refl
             (ap (past_path g.0) (steps_is b h.1 j n ∙ w.1)) g.3 (b, h.1, w.2)
-      | inr w ↦ told_by (Pair i j) (Own g.0) false (n, g.0) g.3.0 atts inside later g.3.1 off found refl
+        | inr w ↦ told_by (Pair i j) (Own g.0) false (n, g.0) g.3.0 atts inside later g.3.1 off found refl
             (ap (past_path g.0) (steps_is b h.1 j n ∙ w.0)) g.3 w.1
       ]
   told_pair i j (chars text plain later) h = elim h.2 [ ]

@@ -1,13 +1,13 @@
 -- A chosen tree begins as it is chosen.
-use Rattle.std.proofs.Common.{◌≡◌, ◌∙◌, ℕ, ◌+◌, List, [], ◌∷◌, Bool, true, false, cond, ◌&&◌, refl, sym, ap, subst, inl, inr, Option, Some, None, slice_get, IsTrue, arith}
+use Rattle.std.proofs.Common.{◌≡◌, ◌∙◌, ℕ, ◌+◌, List, Bool, true, false, cond, ◌&&◌, refl, sym, ap, subst, inl, inr, Option, Some, None, slice_get, arith}
 use Rattle.std.specs.Prelude.{is_some, is_none, option_map}
-use Rattle.std.proofs.lemmas.Bool.{both_ways, and_from, and_parts}
+use Rattle.std.proofs.lemmas.Bool.{and_from, and_parts}
 use Rattle.content_models.specs.declared.content.Content.{Content}
 use Rattle.content_models.specs.declared.content.TextKind.{TextKind}
 use Rattle.content_models.specs.declared.content.TextKind.TheVariants.{NoItems, White, All}
 use Rattle.content_models.specs.Kinds.{text_kind}
 use Rattle.content_models.specs.Model.{Chars}
-use Rattle.document_trees.specs.Trees.{Attribute, Items, nothing, element, chars, comment, pi, joined}
+use Rattle.document_trees.specs.Trees.{Attribute, Items, nothing, joined}
 use Rattle.attlist_merge.specs.Lists.{Definitions}
 use Rattle.decl_set.specs.Declarations.{content_in, attributes_in}
 use Rattle.decl_set.specs.Oddness.{odd_in}
@@ -19,15 +19,14 @@ use Rattle.tree_costs.specs.declared.cost.Cost.TheVariants.{Fin}
 use Rattle.tree_costs.specs.Leasts.{place_of as place_in}
 use Rattle.decl_set.proofs.Found.{found_at}
 use Rattle.exact_tables.proofs.Choosing.{same-some}
-use Rattle.exact_tables.specs.Chosen.{odd_atts, odd_front, front_of as front_in_words, front_text, AttainsKind11, AttainsKind10, WrongFrom}
-use Rattle.separating_article.specs.declared.choosing.Path.{Path}
+use Rattle.exact_tables.specs.Chosen.{odd_atts, odd_front, front_of as front_in_words, front_text, AttainsKind11, AttainsKind10}
 use Rattle.separating_article.specs.declared.guide.Guide.{Guide}
 use Rattle.separating_article.specs.declared.opening.Way.{Way}
 use Rattle.separating_article.specs.declared.opening.Way.TheVariants as way
 use Rattle.separating_article.specs.Guides.{v_at, m_at, g_at, costs_in, IsGuide}
 use Rattle.separating_article.specs.Choosing.{is_same, next_step}
 use Rattle.separating_article.specs.Growing.{IsNext, begun_node, begun_size}
-use Rattle.separating_article.specs.Openings.{is_by_odd, is_by_names, way_of, path_of, shown, att_of, values_by, is_plain_front, run_of, front_by, plain_front, front_of, atts_of}
+use Rattle.separating_article.specs.Openings.{is_by_odd, is_by_names, way_of, path_of, att_of, values_by, is_plain_front, run_of, front_by, plain_front, front_of, atts_of}
 use Rattle.separating_article.specs.Paths.{IsTop, Follows}
 use Rattle.separating_article.specs.Sizes.{atts_size, front_size, names_size, is_empty, items_size}
 use Rattle.separating_article.proofs.NextSteps.{told_same, test_same, m_same, v_same, g_same, chosen_has, placed, told, empty_is}
@@ -114,9 +113,10 @@ module _ (guide : Guide) (ok : IsGuide guide) (e : ℕ) (name : Chars) (a : Cont
 
   odd_to : is_by_odd guide e name ≡ true → ByOdd
   odd_to h =
-      let t = and_parts (is_some (odd_in guide.first.now guide.second.now name)) (is_same (v_at guide.book (Some e)) (m_at guide.book (Some e))) h in
-      (t.0,
-      told_same (v_at guide.book (Some e)) (m_at guide.book (Some e)) ((costs_in guide).v name) ((costs_in guide).m name) v_is m_is t.1)
+      let t = and_parts (is_some (odd_in guide.first.now guide.second.now name)) (is_same (v_at guide.book (Some e)) (m_at guide.book (Some e))) h in (
+        t.0,
+        told_same (v_at guide.book (Some e)) (m_at guide.book (Some e)) ((costs_in guide).v name) ((costs_in guide).m name) v_is m_is t.1,
+      )
 
   names_from : ByNames → is_by_names guide e name ≡ true
   names_from h = and_from (is_some (content_in guide.second.now name)) (is_same (v_at guide.book (Some e)) (sum guide.cap (Fin 1) (g_at guide.book e 0 0)))
@@ -125,9 +125,10 @@ module _ (guide : Guide) (ok : IsGuide guide) (e : ℕ) (name : Chars) (a : Cont
 
   names_to : is_by_names guide e name ≡ true → ByNames
   names_to h =
-      let t = and_parts (is_some (content_in guide.second.now name)) (is_same (v_at guide.book (Some e)) (sum guide.cap (Fin 1) (g_at guide.book e 0 0))) h in
-      (t.0,
-      told_same (v_at guide.book (Some e)) (sum guide.cap (Fin 1) (g_at guide.book e 0 0)) ((costs_in guide).v name) (sum guide.cap (Fin 1) ((costs_in guide).g name 0 0)) v_is g_sum t.1)
+      let t = and_parts (is_some (content_in guide.second.now name)) (is_same (v_at guide.book (Some e)) (sum guide.cap (Fin 1) (g_at guide.book e 0 0))) h in (
+        t.0,
+        told_same (v_at guide.book (Some e)) (sum guide.cap (Fin 1) (g_at guide.book e 0 0)) ((costs_in guide).v name) (sum guide.cap (Fin 1) ((costs_in guide).g name 0 0)) v_is g_sum t.1,
+      )
 
   -- ---- the tree begins so
 
@@ -165,7 +166,7 @@ module _ (guide : Guide) (ok : IsGuide guide) (e : ℕ) (name : Chars) (a : Cont
   begins true atts items (inr h) =
       let off = refused (is_by_odd guide e name) (λ t. h.0 (odd_to t)) in
       elim h.1 [
-        inl g ↦
+        | inl g ↦
             let c = g.1 in
             by_way (way_of guide e name true) way.Names atts items (ap (λ b. way_with b (is_by_names guide e name)) off ∙ ap (way_with false) (names_from g.0)) (record {
               inside = items;
@@ -173,7 +174,7 @@ module _ (guide : Guide) (ok : IsGuide guide) (e : ℕ) (name : Chars) (a : Cont
               items_are = refl;
               follows = subst (λ (b : Content). Follows guide (path_of way.Names) name b items) (same_content c.0 c.2) (c.1, c.3, c.5);
             })
-      | inr g ↦
+        | inr g ↦
             let no = refused (is_by_names guide e name) (λ t. g.0 (names_to t)) in
             let c = g.2 in
             by_way (way_of guide e name true) way.Below atts items (ap (λ b. way_with b (is_by_names guide e name)) off ∙ ap (way_with false) no) (record {

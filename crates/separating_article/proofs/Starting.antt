@@ -9,7 +9,7 @@ use Rattle.tree_costs.specs.Beside.{put}
 use Rattle.separating_article.specs.declared.choosing.Step.{Step}
 use Rattle.separating_article.specs.declared.guide.Guide.{Guide}
 use Rattle.separating_article.specs.declared.opening.Way.{Way}
-use Rattle.separating_article.specs.Growing.{PutsAtts, StartsBy, begun_node, begun_size}
+use Rattle.separating_article.specs.Growing.{PutsAtts, StartsBy, begun_size}
 use Rattle.separating_article.specs.Openings.{shown, att_of, values_by, run_of, plain_front, front_of, atts_of}
 use Rattle.separating_article.specs.Sizes.{atts_size, front_size, names_size}
 
@@ -51,7 +51,7 @@ module _ (guide : Guide) (name : Chars) (way : Way) (place : ℕ) (step : Option
       let w = whole in
       let sum = h.1 in (
         ap (λ (x : Node). record { place = place; node = x; step = step }) made
-        ∙ ap (λ (x : List Attribute). record { place = place; node = record { name = name; atts = x; items = put (option_map run_of o) nothing }; step = step }) (h.0 ∙ ap (λ l. l ++ values_by (att_of odd) (unwrap_or (list_in guide.first.now name) [])) none ∙ atts_same)
-        ∙ ap (λ (x : Items). record { place = place; node = record { name = name; atts = atts_of guide name way; items = x }; step = step }) (ap (λ f. put f nothing) front_same),
+            ∙ ap (λ (x : List Attribute). record { place = place; node = record { name = name; atts = x; items = put (option_map run_of o) nothing }; step = step }) (h.0 ∙ ap (λ l. l ++ values_by (att_of odd) (unwrap_or (list_in guide.first.now name) [])) none ∙ atts_same)
+            ∙ ap (λ (x : Items). record { place = place; node = record { name = name; atts = atts_of guide name way; items = x }; step = step }) (ap (λ f. put f nothing) front_same),
         omega (arith, w, spent, sum),
       )

@@ -1,13 +1,10 @@
 -- What the laws of least and chosen trees say of articles.
-use Rattle.std.proofs.Common.{◌≡◌, ◌∙◌, ◌≤◌, ℕ, suc, ◌+◌, ◌<◌, max, Bool, true, false, not, eqb, ◌&&◌, ◌||◌, List, [], ◌∷◌, refl, sym, ap, subst, arith, IsTrue, true≢false}
-use Rattle.std.specs.List.{list_any, list_all}
+use Rattle.std.proofs.Common.{◌≡◌, ◌≤◌, ℕ, suc, ◌+◌, Bool, true, false, not, eqb, ◌&&◌, ◌||◌, List, [], ◌∷◌, refl, ap, arith}
 use Rattle.std.proofs.lemmas.Bool.{and_from, and_parts}
 use Rattle.content_models.specs.Model.{Chars}
-use Rattle.document_trees.specs.Trees.{Attribute, Items, nothing, element, chars, comment, pi, Node, EachBelow, is_white}
+use Rattle.document_trees.specs.Trees.{Items, nothing, element, chars, comment, pi, Node, EachBelow, is_white}
 use Rattle.decl_set.specs.Declarations.{Declarations}
-use Rattle.tree_costs.specs.declared.least.Least.{Least}
 use Rattle.tree_costs.specs.Leasts.{m_of, p_of}
-use Rattle.bound_checker.specs.declared.tables.Tables.{Tables}
 use Rattle.bound_checker.specs.Tabled.{costs_of}
 use Rattle.exact_tables.specs.LeastTrees.{IsWritten, are_written, begins_run, has_cr, is_filled, depth, IsBuilt}
 use Rattle.exact_tables.proofs.Choosing.{one_least_tree, one_chosen}

@@ -1,6 +1,5 @@
 -- What a tree under way comes to stays the same, step by step.
-use Rattle.std.proofs.Common.{◌≡◌, ◌∙◌, ◌<◌, ◌≤◌, ℕ, ◌+◌, ◌-◌, ◌*◌, List, [], ◌∷◌, ◌++◌, Bool, refl, sym, ap, subst, arith, Option, Some, None, Result, Ok, Err, slice_get, IfSome}
-use Rattle.std.specs.Prelude.{is_none}
+use Rattle.std.proofs.Common.{◌≡◌, ◌∙◌, ◌<◌, ◌≤◌, ℕ, ◌+◌, ◌*◌, List, [], ◌∷◌, ◌++◌, Bool, refl, sym, ap, subst, arith, Option, Some, None, Result, Ok, Err, slice_get, IfSome}
 use Rattle.content_models.specs.declared.content.Content.{Content}
 use Rattle.content_models.specs.Model.{Chars}
 use Rattle.document_trees.specs.Trees.{Attribute, Items, nothing, element, chars, comment, pi, Node, joined, elements_in, size}

@@ -1,5 +1,5 @@
 -- The costs by which trees are chosen: by the places of elements, and by their names.
-use Rattle.std.specs.Prelude.{◌≡◌, ◌≤◌, ℕ, List, Option, Some, None, find, option_and_then, slice_get}
+use Rattle.std.specs.Prelude.{◌≤◌, ℕ, Option, find, option_and_then, slice_get}
 use Rattle.std.specs.List.{AllByRecursion}
 use Rattle.std.specs.Option.{option_map_or}
 use Rattle.decl_set.specs.Asked.{IsKept}

@@ -142,12 +142,7 @@ pub fn start(
 }
 
 /// Takes a step: starts its element in the innermost one.
-fn enter(
-    alloc: Global,
-    guide: &Guide,
-    work: &mut Growing,
-    step: Step,
-) -> Result<(), BuildOver>
+fn enter(alloc: Global, guide: &Guide, work: &mut Growing, step: Step) -> Result<(), BuildOver>
     requires step { work.old.inner.step ≡ Some step }
     requires stands { spec.IsUnderWay guide.now work.old }
     ensures { spec.Enters guide.now work.old work.new result }

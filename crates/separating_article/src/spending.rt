@@ -87,12 +87,7 @@ fn spend_front(left: u64, front: Option<bool>) -> Option<u64>
 
 /// Takes the bytes of the tags of an element without its attributes, and of a run in front of its elements; where no step
 /// comes, no elements stand in it.
-pub fn spend_start(
-    left: u64,
-    name: &Name,
-    front: Option<bool>,
-    step: Option<Step>,
-) -> Option<u64>
+pub fn spend_start(left: u64, name: &Name, front: Option<bool>, step: Option<Step>) -> Option<u64>
     ensures { Spends left (names_size name.now (is_none front && is_none step) + front_size (option_map run_of front)) result }
 {
     let left = spend_tags(left, name, front.is_none() && step.is_none())?;

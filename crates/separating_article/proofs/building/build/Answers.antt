@@ -1,4 +1,4 @@
-use Rattle.separating_article.proofs.Built.{under_way, begun_not, grown_over, grown_whole}
+use Rattle.separating_article.proofs.Built.{under_way, begun_not}
 use Rattle.separating_article.proofs.building.build.Goals as goal
 
 pub returns-in-Err : goal.returns-in-Err

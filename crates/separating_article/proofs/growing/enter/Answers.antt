@@ -1,5 +1,4 @@
-use Rattle.std.proofs.Common.{◌∙◌, ℕ, Option, Ok, sym, ap, subst, slice_get, IfSome}
-use Rattle.separating_article.specs.Choosing.{next_step}
+use Rattle.std.proofs.Common.{◌∙◌, Option, Ok, sym, ap, subst, slice_get, IfSome}
 use Rattle.separating_article.specs.Growing.{Starts}
 use Rattle.separating_article.specs.declared.choosing.Step.{Step}
 use Rattle.separating_article.specs.declared.growing.Started.{Started}
