@@ -31,11 +31,160 @@ use Rattle.bound_checker.specs.Certificates.{spaced, cost_text, costs_text, elem
 use Rattle.bound_checker.specs.Lines.{joined, onto, lines_of, IsInline, TextReadsBack, TextIsFound}
 use Rattle.bound_checker.proofs.Certificates.{printed_back, printed_found}
 
-abbrev is_inline : ℕ → Bool
+-- ---- a test that all characters of certificates pass
+
+pub record IsPassed (p : ℕ → Bool) : Type 0 where
+  pub digit : (n : ℕ) → n < 10 → p (48 + n) ≡ true
+  pub starts : (c : ℕ) → is_name_start c ≡ true → p c ≡ true
+  pub named : (c : ℕ) → is_name_char c ≡ true → p c ≡ true
+  pub space : p 0x20 ≡ true
+  pub certificate : list_all p (codes "certificate ") ≡ true
+  pub version : list_all p (codes "1 ") ≡ true
+  pub element : list_all p (codes "element ") ≡ true
+  pub state : list_all p (codes "state ") ≡ true
+  pub pair : list_all p (codes "pair ") ≡ true
+  pub inf : list_all p (codes "inf") ≡ true
+  pub end : list_all p (codes "end") ≡ true
+
+abbrev IsFin : Cost → Type 0
+IsFin (Fin n) = Unit {0}
+IsFin Inf = ⊥
+
+small_pairs : (cap : ℕ) (a : Content) (b : Option Content) (xs : List PairRow) → AllByRecursion (IsPair cap a b) xs → AllByRecursion (λ x. IsSmall cap x.g) xs
+small_pairs cap a b [] h = tt
+small_pairs cap a None (x ∷ xs) h = elim h.0 [ ]
+small_pairs cap a (Some b) (x ∷ xs) h = (h.0.2, small_pairs cap a (Some b) xs h.1)
+
+-- a proper content has few states
+few_states : (a : Content) → IsProper a → states a < 2 ^ 32
+few_states Empty p = omega arith
+few_states Any p = omega arith
+few_states (Mixed listed) p = omega arith
+few_states (Children part) p = let q = proper_count (Children part) part refl p in omega (arith, q)
+
+module _ (p : ℕ → Bool) (t : IsPassed p) where
+  abbrev Passes : List ℕ → Type 0
+  Passes line = list_all p line ≡ true
+
+  pass_both : (a b : List ℕ) → Passes a → Passes b → Passes (a ++ b)
+  pass_both a b h k = list_all-append p a b ∙ both_true h k
+
+  pass_spaced : (a b : List ℕ) → Passes a → Passes b → Passes (spaced a b)
+  pass_spaced a b h k = pass_both a (0x20 ∷ b) h (both_true t.space k)
+
+  pub decimal_passes : (n : ℕ) → n < 2 ^ 64 → Passes (decimal n)
+  decimal_passes n fits = decimal_by_steps (λ m ds. Passes ds)
+      (λ n small. both_true (t.digit n small) refl)
+      (λ n ds large w. list_all-append p ds ((48 + n % 10) ∷ []) ∙ both_true w (both_true (t.digit (n % 10) (omega arith)) refl))
+      n fits
+
+  chars_pass : (cs : List ℕ) → list_all is_name_char cs ≡ true → Passes cs
+  chars_pass [] h = refl
+  chars_pass (c ∷ cs) h = let parts = and_parts (is_name_char c) (list_all is_name_char cs) h in both_true (t.named c parts.0) (chars_pass cs parts.1)
+
+  pub name_passes : (name : List ℕ) → is_name name ≡ true → Passes name
+  name_passes [] h = absurd (true≢false (sym h))
+  name_passes (c ∷ cs) h = let parts = and_parts (is_name_start c) (list_all is_name_char cs) h in both_true (t.starts c parts.0) (chars_pass cs parts.1)
+
+  cost_passes : (cap : ℕ) (c : Cost) → cap ≤ 100000 → IsSmall cap c → Passes (cost_text c)
+  cost_passes cap (Fin n) low (inl e) = absurd (subst IsFin e tt)
+  cost_passes cap (Fin n) low (inr h) = decimal_passes n (omega (arith, h, low))
+  cost_passes cap Inf low s = t.inf
+
+  costs_pass : (cap : ℕ) (a b : Cost) → cap ≤ 100000 → IsSmall cap a → IsSmall cap b → Passes (costs_text a b)
+  costs_pass cap a b low h k = pass_spaced (cost_text a) (cost_text b) (cost_passes cap a low h) (cost_passes cap b low k)
+
+  -- ---- the lines
+
+  abbrev AllPass : List Chars → Type 0
+  AllPass lines = AllByRecursion Passes lines
+
+  states_pass : (cap : ℕ) (ss : List StateRow) (i : ℕ) (rest : List Chars) → cap ≤ 100000 → i + length ss < 2 ^ 64
+      → AllByRecursion (λ s. IsSmall cap s.p) ss → AllByRecursion (λ s. IsSmall cap s.f) ss → AllPass rest → AllPass (state_lines i ss rest)
+  states_pass cap [] i rest low few ps fs h = h
+  states_pass cap (s ∷ ss) i rest low few ps fs h = (
+    pass_both (state_head i) (costs_text s.p s.f) (pass_both (codes "state ") (spaced (decimal i) []) t.state (pass_spaced (decimal i) [] (decimal_passes i (omega arith)) refl))
+        (costs_pass cap s.p s.f low ps.0 fs.0),
+    states_pass cap ss (i + 1) rest low (omega arith) ps.1 fs.1 h,
+  )
+
+  pairs_pass : (cap : ℕ) (xs : List PairRow) (rest : List Chars) → cap ≤ 100000 → AllByRecursion (λ x. IsSmall cap x.g) xs → AllByRecursion IsShort xs
+      → AllPass rest → AllPass (pair_lines xs rest)
+  pairs_pass cap [] rest low small short h = h
+  pairs_pass cap (x ∷ xs) rest low small short h = (
+    pass_both (codes "pair ") (pair_text x) t.pair
+        (pass_spaced (spaced (decimal x.i) (decimal x.j)) (cost_text x.g)
+        (pass_spaced (decimal x.i) (decimal x.j) (decimal_passes x.i (let s = short.0.0 in omega (arith, s))) (decimal_passes x.j (let s = short.0.1 in omega (arith, s))))
+        (cost_passes cap x.g low small.0)),
+    pairs_pass cap xs rest low small.1 short.1 h,
+  )
+
+  rows_pass : (cap : ℕ) (second : Declarations) (es : List Element) (rows : List Row) (rest : List Chars) → cap ≤ 100000 → AllByRecursion IsElement es
+      → FitRows cap second es rows → AllByRecursion AreShort rows → AllPass rest → AllPass (row_lines es rows rest)
+  rows_pass cap second [] rows rest low k f short h = h
+  rows_pass cap second (e ∷ es) [] rest low k f short h = h
+  rows_pass cap second (e ∷ es) (row ∷ rows) rest low k f short h =
+      let few = few_states e.1 k.0.proper in
+      let count = f.0.count in (
+        pass_both (element_head e.0) (costs_text row.m row.v)
+            (pass_both (codes "element ") (spaced e.0 []) t.element (pass_spaced e.0 [] (name_passes e.0 k.0.named) refl)) (costs_pass cap row.m row.v low f.0.m f.0.v),
+        states_pass cap row.states 0 (pair_lines row.pairs (row_lines es rows rest)) low (omega (arith, few, count)) f.0.p f.0.f
+            (pairs_pass cap row.pairs (row_lines es rows rest) low (small_pairs cap e.1 (content_in second e.0) row.pairs f.0.pairs) short.0
+            (rows_pass cap second es rows rest low k.1 f.1 short.1 h)),
+      )
+
+  -- all lines of a certificate pass the test
+  pub lines_pass : (first second : Declarations) (tables : Tables) → IsKept first → Fits first second tables → AllByRecursion AreShort tables.rows
+      → AllByRecursion (λ line. list_all p line ≡ true) (cert_lines first tables)
+  lines_pass first second tables k f short = (
+    pass_both (codes "certificate ") (codes "1 " ++ spaced tables.root (decimal tables.cap)) t.certificate
+        (pass_both (codes "1 ") (spaced tables.root (decimal tables.cap)) t.version
+        (pass_spaced tables.root (decimal tables.cap) (name_passes tables.root (element_is first tables.root f.root.0 k f.root.1).named)
+        (decimal_passes tables.cap (let l = f.cap in omega (arith, l))))),
+    rows_pass tables.cap second first.elements tables.rows (codes "end" ∷ []) f.cap k.elements_are f.rows short (t.end, tt),
+  )
+
+-- ---- they hold no LF
+
+abbrev pub is_inline : ℕ → Bool
 is_inline c = not (c == 0xA)
 
 abbrev AreInline : List Chars → Type 0
 AreInline lines = AllByRecursion IsInline lines
+
+digit_inline : (n : ℕ) → n < 10 → is_inline (48 + n) ≡ true
+digit_inline n small = ap not (ne_eqb (48 + n) 10 (λ e. omega (arith, e)))
+
+start_inline : (c : ℕ) → is_name_start c ≡ true → is_inline c ≡ true
+unfolding is_name_start
+start_inline c h =
+    let P : Bool → Type 0 = λ b. (c == 0xA) ≡ b → not b ≡ true in
+    on_test P (c == 0xA) (λ t q. absurd (true≢false (sym (subst (λ k. is_name_start k ≡ true) (eqb-true c 0xA q) h)))) (λ t q. refl) refl
+
+char_inline : (c : ℕ) → is_name_char c ≡ true → is_inline c ≡ true
+unfolding is_name_char
+char_inline c h =
+    let P : Bool → Type 0 = λ b. (c == 0xA) ≡ b → not b ≡ true in
+    on_test P (c == 0xA) (λ t q. absurd (true≢false (sym (subst (λ k. is_name_char k ≡ true) (eqb-true c 0xA q) h)))) (λ t q. refl) refl
+
+pub inline_passed : IsPassed is_inline
+inline_passed = record {
+  digit = digit_inline;
+  starts = start_inline;
+  named = char_inline;
+  space = refl;
+  certificate = refl;
+  version = refl;
+  element = refl;
+  state = refl;
+  pair = refl;
+  inf = refl;
+  end = refl;
+}
+
+lines_inline : (first second : Declarations) (tables : Tables) → IsKept first → Fits first second tables → AllByRecursion AreShort tables.rows
+    → AreInline (cert_lines first tables)
+lines_inline = lines_pass is_inline inline_passed
 
 -- ---- lines that hold no LF are the lines of their text
 
@@ -55,116 +204,6 @@ lines_front : (lines : List Chars) (behind : List ℕ) → AreInline lines → l
 lines_front [] behind h = refl
 lines_front (line ∷ lines) behind h =
     ap lines_of (append_assoc line (0xA ∷ joined lines) behind) ∙ (line_off line (joined lines ++ behind) h.0 ∙ ap (λ x. line ∷ x) (lines_front lines behind h.1))
-
--- ---- parts of lines
-
-inline_both : (a b : List ℕ) → IsInline a → IsInline b → IsInline (a ++ b)
-inline_both a b h k = list_all-append is_inline a b ∙ both_true h k
-
-inline_spaced : (a b : List ℕ) → IsInline a → IsInline b → IsInline (spaced a b)
-inline_spaced a b h k = inline_both a (0x20 ∷ b) h (both_true refl k)
-
-digit_inline : (n : ℕ) → n < 10 → is_inline (48 + n) ≡ true
-digit_inline n small = ap not (ne_eqb (48 + n) 10 (λ e. omega (arith, e)))
-
-abbrev Inlined : ℕ → List ℕ → Type 0
-Inlined n ds = IsInline ds
-
-decimal_inline : (n : ℕ) → n < 2 ^ 64 → IsInline (decimal n)
-decimal_inline n fits = decimal_by_steps Inlined
-    (λ n small. both_true (digit_inline n small) refl)
-    (λ n ds large w. list_all-append is_inline ds ((48 + n % 10) ∷ []) ∙ both_true w (both_true (digit_inline (n % 10) (omega arith)) refl))
-    n fits
-
-start_inline : (c : ℕ) → is_name_start c ≡ true → is_inline c ≡ true
-unfolding is_name_start
-start_inline c h =
-    let P : Bool → Type 0 = λ b. (c == 0xA) ≡ b → not b ≡ true in
-    on_test P (c == 0xA) (λ t q. absurd (true≢false (sym (subst (λ k. is_name_start k ≡ true) (eqb-true c 0xA q) h)))) (λ t q. refl) refl
-
-char_inline : (c : ℕ) → is_name_char c ≡ true → is_inline c ≡ true
-unfolding is_name_char
-char_inline c h =
-    let P : Bool → Type 0 = λ b. (c == 0xA) ≡ b → not b ≡ true in
-    on_test P (c == 0xA) (λ t q. absurd (true≢false (sym (subst (λ k. is_name_char k ≡ true) (eqb-true c 0xA q) h)))) (λ t q. refl) refl
-
-chars_inline : (cs : List ℕ) → list_all is_name_char cs ≡ true → IsInline cs
-chars_inline [] h = refl
-chars_inline (c ∷ cs) h = let parts = and_parts (is_name_char c) (list_all is_name_char cs) h in both_true (char_inline c parts.0) (chars_inline cs parts.1)
-
-name_inline : (name : List ℕ) → is_name name ≡ true → IsInline name
-name_inline [] h = absurd (true≢false (sym h))
-name_inline (c ∷ cs) h = let parts = and_parts (is_name_start c) (list_all is_name_char cs) h in both_true (start_inline c parts.0) (chars_inline cs parts.1)
-
-abbrev IsFin : Cost → Type 0
-IsFin (Fin n) = Unit {0}
-IsFin Inf = ⊥
-
-cost_inline : (cap : ℕ) (c : Cost) → cap ≤ 100000 → IsSmall cap c → IsInline (cost_text c)
-cost_inline cap (Fin n) low (inl e) = absurd (subst IsFin e tt)
-cost_inline cap (Fin n) low (inr h) = decimal_inline n (omega (arith, h, low))
-cost_inline cap Inf low s = refl
-
-costs_inline : (cap : ℕ) (a b : Cost) → cap ≤ 100000 → IsSmall cap a → IsSmall cap b → IsInline (costs_text a b)
-costs_inline cap a b low s t = inline_spaced (cost_text a) (cost_text b) (cost_inline cap a low s) (cost_inline cap b low t)
-
--- ---- the lines
-
-states_inline : (cap : ℕ) (ss : List StateRow) (i : ℕ) (rest : List Chars) → cap ≤ 100000 → i + length ss < 2 ^ 64
-    → AllByRecursion (λ s. IsSmall cap s.p) ss → AllByRecursion (λ s. IsSmall cap s.f) ss → AreInline rest → AreInline (state_lines i ss rest)
-states_inline cap [] i rest low few p f h = h
-states_inline cap (s ∷ ss) i rest low few p f h = (
-  inline_both (state_head i) (costs_text s.p s.f) (inline_both (codes "state ") (spaced (decimal i) []) refl (inline_spaced (decimal i) [] (decimal_inline i (omega arith)) refl))
-      (costs_inline cap s.p s.f low p.0 f.0),
-  states_inline cap ss (i + 1) rest low (omega arith) p.1 f.1 h,
-)
-
-pairs_inline : (cap : ℕ) (xs : List PairRow) (rest : List Chars) → cap ≤ 100000 → AllByRecursion (λ x. IsSmall cap x.g) xs → AllByRecursion IsShort xs
-    → AreInline rest → AreInline (pair_lines xs rest)
-pairs_inline cap [] rest low small short h = h
-pairs_inline cap (x ∷ xs) rest low small short h = (
-  inline_both (codes "pair ") (pair_text x) refl
-      (inline_spaced (spaced (decimal x.i) (decimal x.j)) (cost_text x.g)
-      (inline_spaced (decimal x.i) (decimal x.j) (decimal_inline x.i (let s = short.0.0 in omega (arith, s))) (decimal_inline x.j (let s = short.0.1 in omega (arith, s))))
-      (cost_inline cap x.g low small.0)),
-  pairs_inline cap xs rest low small.1 short.1 h,
-)
-
-small_pairs : (cap : ℕ) (a : Content) (b : Option Content) (xs : List PairRow) → AllByRecursion (IsPair cap a b) xs → AllByRecursion (λ x. IsSmall cap x.g) xs
-small_pairs cap a b [] h = tt
-small_pairs cap a None (x ∷ xs) h = elim h.0 [ ]
-small_pairs cap a (Some b) (x ∷ xs) h = (h.0.2, small_pairs cap a (Some b) xs h.1)
-
--- a proper content has few states
-few_states : (a : Content) → IsProper a → states a < 2 ^ 32
-few_states Empty p = omega arith
-few_states Any p = omega arith
-few_states (Mixed listed) p = omega arith
-few_states (Children part) p = let q = proper_count (Children part) part refl p in omega (arith, q)
-
-rows_inline : (cap : ℕ) (second : Declarations) (es : List Element) (rows : List Row) (rest : List Chars) → cap ≤ 100000 → AllByRecursion IsElement es
-    → FitRows cap second es rows → AllByRecursion AreShort rows → AreInline rest → AreInline (row_lines es rows rest)
-rows_inline cap second [] rows rest low k f short h = h
-rows_inline cap second (e ∷ es) [] rest low k f short h = h
-rows_inline cap second (e ∷ es) (row ∷ rows) rest low k f short h =
-    let few = few_states e.1 k.0.proper in
-    let count = f.0.count in (
-      inline_both (element_head e.0) (costs_text row.m row.v)
-          (inline_both (codes "element ") (spaced e.0 []) refl (inline_spaced e.0 [] (name_inline e.0 k.0.named) refl)) (costs_inline cap row.m row.v low f.0.m f.0.v),
-      states_inline cap row.states 0 (pair_lines row.pairs (row_lines es rows rest)) low (omega (arith, few, count)) f.0.p f.0.f
-          (pairs_inline cap row.pairs (row_lines es rows rest) low (small_pairs cap e.1 (content_in second e.0) row.pairs f.0.pairs) short.0
-          (rows_inline cap second es rows rest low k.1 f.1 short.1 h)),
-    )
-
-lines_inline : (first second : Declarations) (tables : Tables) → IsKept first → Fits first second tables → AllByRecursion AreShort tables.rows
-    → AreInline (cert_lines first tables)
-lines_inline first second tables k f short = (
-  inline_both (codes "certificate ") (codes "1 " ++ spaced tables.root (decimal tables.cap)) refl
-      (inline_both (codes "1 ") (spaced tables.root (decimal tables.cap)) refl
-      (inline_spaced tables.root (decimal tables.cap) (name_inline tables.root (element_is first tables.root f.root.0 k f.root.1).named)
-      (decimal_inline tables.cap (let l = f.cap in omega (arith, l))))),
-  rows_inline tables.cap second first.elements tables.rows (codes "end" ∷ []) f.cap k.elements_are f.rows short (refl, tt),
-)
 
 pub text_back : TextReadsBack
 text_back first second tables k f short =

@@ -108,11 +108,15 @@ begins_no_declaration text begins =
     (λ some. subst (λ (t : List ℕ). without_declaration t ≡ Ok t) (sym some.1) (no_declaration some.0))
     begins
 
--- The bytes of such a text have it as their text.
-pub text_encoded : (text : List ℕ) → Begins text → list_all is_text_char text ≡ true → text_of (encode_utf8_all text) ≡ Ok text
-text_encoded text begins are =
+-- The bytes of a text have it as their text, where it begins with no mark and with no declaration.
+pub text_read : (text : List ℕ) → mark_len (encode_utf8_all text) ≡ 0 → without_declaration text ≡ Ok text → list_all is_text_char text ≡ true → text_of (encode_utf8_all text) ≡ Ok text
+text_read text unmarked plain are =
     let bytes = encode_utf8_all text in
-    ap (λ n. undeclared (lined (chars_of n (pieces (drop n bytes))))) (begins_no_mark text begins)
+    ap (λ n. undeclared (lined (chars_of n (pieces (drop n bytes))))) unmarked
     ∙ ap (λ r. undeclared (lined r)) (encoded_chars 0 text are)
     ∙ ap without_declaration (lines_same text are)
-    ∙ begins_no_declaration text begins
+    ∙ plain
+
+-- and so the bytes of such a text
+pub text_encoded : (text : List ℕ) → Begins text → list_all is_text_char text ≡ true → text_of (encode_utf8_all text) ≡ Ok text
+text_encoded text begins are = text_read text (begins_no_mark text begins) (begins_no_declaration text begins) are

@@ -25,7 +25,7 @@ word_at words i x within is = is ∙ get_or_default words i x [] within
 
 -- words of a comparison are seven
 pub seven_words : (words : List (List ℕ)) → is_compare words ≡ true → length words ≡ 7
-seven_words words t = eqb-true (length words) 7 (and_parts (length words == 7) (bytes_eq (word words 0) (codes "compare") && bytes_eq (word words 6) (codes "0")) t).0
+seven_words words t = eqb-true (length words) 7 (and_parts (length words == 7) (bytes_eq (word words 0) (codes "compare") && is_some (cap_in (word words 6))) t).0
 
 -- words of a report are six
 pub six_words : (words : List (List ℕ)) → is_report words ≡ true → length words ≡ 6
@@ -46,17 +46,6 @@ five_words words t = eqb-true (length words) 5 (and_parts (length words == 5) (b
 pub four_words : (words : List (List ℕ)) → is_fill words ≡ true → length words ≡ 4
 four_words words t = eqb-true (length words) 4 (and_parts (length words == 4) (bytes_eq (word words 0) (codes "fill")) t).0
 
--- an answer over two sets that were read is the output
-pub told_over : (next : Declarations → Declarations → List ℕ → Outcome) (holds : Option Files) (one other : SetWords) (root a : List ℕ) (p q : Declarations) (status : ℕ) (bytes : List ℕ) → a ≡ root
-    → IfSome holds (λ files. Reads (set_by files one) (Ok p)) → IfSome holds (λ files. Reads (set_by files other) (Ok q)) → next p q a status bytes
-    → IfSome holds (λ files. after (set_by files one) (λ first. after (set_by files other) (λ second. next first second root)) status bytes)
-told_over next None one other root a p q status bytes same first_read second_read over = tt
-told_over next (Some files) one other root a p q status bytes same first_read second_read over =
-    let P : Result Declarations Fault → Type 0 = λ r. after r (λ first. after (set_by files other) (λ second. next first second root)) status bytes in
-    let Q : Result Declarations Fault → Type 0 = λ r. after r (λ second. next p second root) status bytes in
-    let R : List ℕ → Type 0 = λ name. next p q name status bytes in
-    subst P (sym first_read) (subst Q (sym second_read) (subst R same over))
-
 -- what is answered where a set is not read
 stopped_by : {X : Type 0} → (outcome : Result X Fault) (next : X → Outcome) (fault : ReadFault) (result : Result Answer Stop) → Reads outcome (Err fault) → StopsAs fault result → IfOk result (λ a. after outcome next a.status a.bytes.items)
 stopped_by outcome next (reading.Refused refusal) (Ok answer) reads stops =
@@ -70,14 +59,6 @@ pub told_stopped : {X : Type 0} → (holds : Option Files) (read : Files → Res
     → IfSome holds (λ files. IfOk result (λ a. after (read files) (next files) a.status a.bytes.items))
 told_stopped None read next fault result reads stops = tt
 told_stopped (Some files) read next fault result reads stops = stopped_by (read files) (next files) fault result reads stops
-
--- and where the second of two sets is not
-pub told_stopped_second : {X Y : Type 0} → (holds : Option Files) (read : Files → Result X Fault) (other : Files → Result Y Fault) (next : Files → X → Y → Outcome) (first : X) (fault : ReadFault) (result : Result Answer Stop)
-    → IfSome holds (λ files. Reads (read files) (Ok first)) → IfSome holds (λ files. Reads (other files) (Err fault)) → StopsAs fault result
-    → IfSome holds (λ files. IfOk result (λ a. after (read files) (λ x. after (other files) (next files x)) a.status a.bytes.items))
-told_stopped_second None read other next first fault result read_first reads stops = tt
-told_stopped_second (Some files) read other next first fault result read_first reads stops =
-    subst (λ r. IfOk result (λ a. after r (λ x. after (other files) (next files x)) a.status a.bytes.items)) (sym read_first) (stopped_by (other files) (next files first) fault result reads stops)
 
 -- what is answered over two things that were read, the second by the first
 pub told_both : {X Y : Type 0} → (holds : Option Files) (read : Files → Result X Fault) (other : Files → X → Result Y Fault) (next : X → Y → Outcome) (x : X) (y : Y) (status : ℕ) (bytes : List ℕ)

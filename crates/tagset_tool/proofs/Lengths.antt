@@ -12,18 +12,16 @@ use Rattle.separating_article.specs.Articles.{IsLeastOf, text_size}
 use Rattle.jats_chars.specs.declared.NoMemory.{NoMemory as OutOfMemory}
 use Rattle.tagset_tool.specs.Outcomes.{answering, fitting, fitting_by, most_written, refusing}
 use Rattle.tagset_tool.specs.Refusals.{output_over, root_undeclared}
-use Rattle.tagset_tool.specs.commands.Least.{least_from, least_in, least_text, sized}
+use Rattle.tagset_tool.specs.commands.Least.{least_from, least_in, least_line, least_text, sized}
 use Rattle.tagset_tool.specs.declared.answer.Answer.{Answer}
 
 -- an output is longer than the article in it
 longer : (n : ℕ) (node : Node) → text_size node ≤ length (least_text n node)
 longer n node =
     let text = encode_utf8_all (write node) in
-    let a = length-append (codes "least ") (decimal n ++ (10 ∷ (text ++ 10 ∷ []))) in
-    let b = length-append (decimal n) (10 ∷ (text ++ 10 ∷ [])) in
-    let c = length-append text (10 ∷ []) in
-    let d : length (10 ∷ (text ++ 10 ∷ [])) ≡ 1 + length (text ++ 10 ∷ []) = omega arith in
-    omega (arith, a, b, c, d)
+    let a = length-append (least_line n) (text ++ 10 ∷ []) in
+    let b = length-append text (10 ∷ []) in
+    omega (arith, a, b)
 
 -- an article that is too long
 pub article_over : (set : Declarations) (least : Least) (root : List ℕ) (n : ℕ) (node : Node) (result : Result Answer OutOfMemory) → IsLeastOf set least root node → most_written < text_size node

@@ -1,12 +1,17 @@
 pub mod Absences
 pub mod Asked
 pub mod Causes
+pub mod Characters
+pub mod Compared
 pub mod Counted
+pub mod Headline
 pub mod Heads
 pub mod Leaving
 pub mod Lengths
+pub mod Named
 pub mod OneOutput
 pub mod Outcomes
 pub mod Present
 pub mod Reported
 pub mod SoundRuns
+pub mod Spelled

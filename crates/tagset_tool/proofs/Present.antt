@@ -24,7 +24,10 @@ use Rattle.bound_checker.specs.declared.tables.Tables.{Tables}
 use Rattle.tagset_tool.specs.commands.Verify.{broken_words, certified, checked, claim}
 use Rattle.tagset_tool.specs.commands.Fill.{filled_text}
 use Rattle.tagset_tool.specs.commands.Validate.{judged, fault_lines, valid_line}
-use Rattle.tagset_tool.specs.Verdicts.{Verdict, Subset, Above}
+use Rattle.tagset_compare.specs.declared.fault.CompareFault.{CompareFault}
+use Rattle.tagset_compare.specs.declared.fault.CompareFault.TheVariants as compared
+use Rattle.tagset_compare.specs.declared.outcome.Verdict.{Verdict}
+use Rattle.tagset_compare.specs.declared.outcome.Verdict.TheVariants.{Subset, Not, Over}
 use Rattle.decl_set.specs.declared.breaks.BrokenDecl.{BrokenDecl}
 use Rattle.tagset_report.specs.declared.fault.ReportFault.{ReportFault}
 use Rattle.tagset_report.specs.declared.fault.ReportFault.TheVariants.{RootUndeclared, PairsOver, NoMemory}
@@ -32,7 +35,7 @@ use Rattle.tagset_report.specs.declared.outcome.Report.{Report}
 use Rattle.tagset_tool.specs.commands.Report.{count_line, differs_line, report_lines, report_status, reported, telling}
 use Rattle.tagset_tool.specs.Counts.{count_lines}
 use Rattle.tagset_tool.specs.Outcomes.{answering, fitting, fitting_by, most_written}
-use Rattle.tagset_tool.specs.commands.Compare.{from_root, over_sets, verdict_lines}
+use Rattle.tagset_tool.specs.commands.Compare.{answers, over_sets, verdict_lines, verdict_status}
 use Rattle.tagset_tool.specs.Refusals.{cert_malformed, pairs_over, root_undeclared, output_over}
 use Rattle.tagset_tool.specs.Runs.{is_absence}
 use Rattle.tagset_tool.proofs.Heads.{absence_number}
@@ -124,18 +127,22 @@ pub filled_present : (set : Declarations) (node : Node) (status : ℕ) (bytes : 
 filled_present set node status bytes over =
     size_present (nat_lt most_written (length (filled_text set node))) 0 (filled_text set node) status bytes (angle_more (write (filled set node)) (10 ∷ []) refl) over
 
-verdict_present : (v : Verdict) → IsPresent (verdict_lines v)
-verdict_present (Subset some) t = let off : IsTrue false = t in cc
-verdict_present (Above broken) t = let off : IsTrue false = t in cc
+verdict_present : (first : Declarations) (cap : ℕ) (v : Verdict) → IsPresent (verdict_lines first cap v)
+verdict_present first cap (Subset tables) t = let off : IsTrue false = t in cc
+verdict_present first cap (Not article broken tables) t = let off : IsTrue false = t in cc
+verdict_present first cap (Over broken tables) t = let off : IsTrue false = t in cc
 
-root_present : (first second : Declarations) (root : List ℕ) (o : Option Content) (status : ℕ) (bytes : List ℕ) → from_root first second root o status bytes → IsPresent bytes
-root_present first second root None status bytes over = same_present bytes (line_of (root_undeclared root)) over.1 (undeclared_present root)
-root_present first second root (Some content) status bytes (inl over) = same_present bytes (line_of (pairs_over over.0)) over.2.1 (pairs_present over.0)
-root_present first second root (Some content) status bytes (inr over) = let answer = over.1 in same_present bytes (verdict_lines answer.0) answer.2.1 (verdict_present answer.0)
+answers_present : (first : Declarations) (root : List ℕ) (cap : ℕ) (result : Result Verdict CompareFault) (status : ℕ) (bytes : List ℕ) → answers first root cap result status bytes → IsPresent bytes
+answers_present first root cap (Ok v) status bytes over =
+    size_present (nat_lt most_written (length (verdict_lines first cap v))) (verdict_status v) (verdict_lines first cap v) status bytes (verdict_present first cap v) over
+answers_present first root cap (Err compared.RootUndeclared) status bytes over = same_present bytes (line_of (root_undeclared root)) over.1 (undeclared_present root)
+answers_present first root cap (Err (compared.PairsOver name)) status bytes over = same_present bytes (line_of (pairs_over name)) over.1 (pairs_present name)
+answers_present first root cap (Err compared.TextOver) status bytes over = same_present bytes (line_of output_over) over.1 over_present
+answers_present first root cap (Err compared.NoMemory) status bytes over = absurd over
 
 -- nor is an answer over two sets
-pub sets_present : (first second : Declarations) (root : List ℕ) (status : ℕ) (bytes : List ℕ) → over_sets first second root status bytes → IsPresent bytes
-sets_present first second root status bytes over = root_present first second root (content_in first root) status bytes over
+pub sets_present : (first second : Declarations) (root : List ℕ) (cap status : ℕ) (bytes : List ℕ) → over_sets first second root cap status bytes → IsPresent bytes
+sets_present first second root cap status bytes over = answers_present first root cap over.0 status bytes over.2
 
 differing_present : (differs : List BrokenDecl) (useful count : ℕ) → IsPresent (flat_map differs_line differs ++ count_line useful count)
 differing_present [] useful count t = let off : IsTrue false = t in cc

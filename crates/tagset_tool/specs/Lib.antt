@@ -1,10 +1,10 @@
 pub mod commands
 pub mod Counts
+pub mod Headline
 pub mod Law
 pub mod Outcomes
 pub mod Output
 pub mod Refusals
 pub mod Runs
 pub mod Sound
-pub mod Verdicts
 pub mod Words

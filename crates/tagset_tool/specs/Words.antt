@@ -19,7 +19,7 @@ pub data Asked : Type 0 where
   flatten : SetWords → Asked
   validate : SetWords → (root article : List ℕ) → Asked
   fill : SetWords → (article : List ℕ) → Asked
-  compare : (first second : SetWords) (root : List ℕ) → Asked
+  compare : (first second : SetWords) (root : List ℕ) (cap : ℕ) → Asked
   report : (first second : SetWords) (root : List ℕ) → Asked
   least : SetWords → (root : List ℕ) (cap : ℕ) → Asked
   verify : (certificate : List ℕ) (first second : SetWords) → Asked
@@ -34,6 +34,13 @@ catalog_word word = if bytes_eq word (codes "-") then None else Some word
 -- the catalog at a place of the words, and the entry behind it
 abbrev pub set_words : List (List ℕ) → ℕ → SetWords
 set_words words k = record { catalog = catalog_word (word words k); entry = word words (k + 1) }
+
+-- a cap: a number without leading zeros, of at most 100,000
+abbrev pub cap_in : List ℕ → Option ℕ
+cap_in word = option_and_then (λ n. if nat_le n 100000 then Some n else None) (short_number_in word)
+
+abbrev pub cap_or_0 : List ℕ → ℕ
+cap_or_0 word = option_map_or (λ n. n) (cap_in word) 0
 
 -- check CATALOG ENTRY
 abbrev pub is_check : List (List ℕ) → Bool
@@ -51,20 +58,13 @@ is_validate words = length words == 5 && bytes_eq (word words 0) (codes "validat
 abbrev pub is_fill : List (List ℕ) → Bool
 is_fill words = length words == 4 && bytes_eq (word words 0) (codes "fill")
 
--- compare CATALOG1 FIRST CATALOG2 SECOND ROOT 0
+-- compare CATALOG1 FIRST CATALOG2 SECOND ROOT CAP
 abbrev pub is_compare : List (List ℕ) → Bool
-is_compare words = length words == 7 && (bytes_eq (word words 0) (codes "compare") && bytes_eq (word words 6) (codes "0"))
+is_compare words = length words == 7 && (bytes_eq (word words 0) (codes "compare") && is_some (cap_in (word words 6)))
 
 -- report CATALOG1 FIRST CATALOG2 SECOND ROOT
 abbrev pub is_report : List (List ℕ) → Bool
 is_report words = length words == 6 && bytes_eq (word words 0) (codes "report")
-
--- a cap: a number without leading zeros, of at most 100,000
-abbrev pub cap_in : List ℕ → Option ℕ
-cap_in word = option_and_then (λ n. if nat_le n 100000 then Some n else None) (short_number_in word)
-
-abbrev pub cap_or_0 : List ℕ → ℕ
-cap_or_0 word = option_map_or (λ n. n) (cap_in word) 0
 
 -- least CATALOG ENTRY ROOT CAP
 abbrev pub is_least : List (List ℕ) → Bool
@@ -80,7 +80,7 @@ asked words =
     else if is_flatten words then Some (flatten (set_words words 1))
     else if is_validate words then Some (validate (set_words words 1) (word words 3) (word words 4))
     else if is_fill words then Some (fill (set_words words 1) (word words 3))
-    else if is_compare words then Some (compare (set_words words 1) (set_words words 3) (word words 5))
+    else if is_compare words then Some (compare (set_words words 1) (set_words words 3) (word words 5) (cap_or_0 (word words 6)))
     else if is_report words then Some (report (set_words words 1) (set_words words 3) (word words 5))
     else if is_least words then Some (least (set_words words 1) (word words 3) (cap_or_0 (word words 4)))
     else if is_verify words then Some (verify (word words 1) (set_words words 2) (set_words words 4))

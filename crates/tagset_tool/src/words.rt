@@ -54,7 +54,7 @@ pub fn is_compare(words: &[Text]) -> bool
 {
     words.len() == 7
         && is_word(&words[0], &['c', 'o', 'm', 'p', 'a', 'r', 'e'])
-        && is_word(&words[6], &['0'])
+        && cap_of(&words[6]).is_some()
 }
 
 /// Whether the words ask for a report.

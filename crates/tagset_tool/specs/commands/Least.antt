@@ -22,9 +22,13 @@ none_line = codes "none" ++ 10 ∷ []
 abbrev pub above_line : ℕ → List ℕ
 above_line cap = codes "above " ++ (decimal cap ++ 10 ∷ [])
 
+-- how many elements an article has
+abbrev pub least_line : ℕ → List ℕ
+least_line n = codes "least " ++ (decimal n ++ 10 ∷ [])
+
 -- the number of elements, and the article
 abbrev pub least_text : ℕ → Node → List ℕ
-least_text n node = codes "least " ++ (decimal n ++ (10 ∷ (encode_utf8_all (write node) ++ 10 ∷ [])))
+least_text n node = least_line n ++ (encode_utf8_all (write node) ++ 10 ∷ [])
 
 -- a size that is within the cap or not
 abbrev pub sized : Declarations → Least → List ℕ → ℕ → Bool → Outcome

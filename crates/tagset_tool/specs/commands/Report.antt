@@ -11,7 +11,7 @@ use Rattle.tagset_report.specs.declared.fault.ReportFault.TheVariants.{RootUndec
 use Rattle.tagset_report.specs.declared.outcome.Report.{Report}
 use Rattle.tagset_tool.specs.Outcomes.{Outcome, after, fitting, refusing}
 use Rattle.tagset_tool.specs.Refusals.{pairs_over, root_undeclared}
-use Rattle.tagset_tool.specs.Words.{SetWords, set_by}
+use Rattle.tagset_tool.specs.Words.{SetWords, both_by}
 use Rattle.tagset_tool.specs.commands.Compare.{cause_name}
 
 -- an element that breaks, with its cause
@@ -44,4 +44,4 @@ abbrev pub reported : Declarations → Declarations → List ℕ → Outcome
 reported first second root status bytes = (result : Result Report ReportFault) × Reports first second root result × telling root result status bytes
 
 abbrev pub reports : Files → SetWords → SetWords → List ℕ → Outcome
-reports files one other root = after (set_by files one) (λ first. after (set_by files other) (λ second. reported first second root))
+reports files one other root = after (both_by files one other) (λ sets. reported sets.0 sets.1 root)

@@ -12,7 +12,7 @@ use crate::answer::{Answer, Stop, fitting, stop_of};
 use crate::commands::compare::cause_name;
 use crate::reports::{report_from, unreported};
 use crate::shown::shown;
-use crate::words::read_words;
+use crate::words::read_both;
 use decl_set::{BrokenDecl, DeclSet};
 use jats_chars::{NoMemory, Text};
 use jats_io::Store;
@@ -89,15 +89,11 @@ pub fn report_words<S: Store>(alloc: Global, words: &[Text], store: &mut S) -> R
     ensures status { IfOk result (λ a. a.status ≤ 2) }
     ensures told { IfSome (S.holds store.old) (λ files. IfOk result (λ a. spec.reports files (asked.set_words words.now 1) (asked.set_words words.now 3) (asked.word words.now 5) a.status a.bytes.items)) }
 {
-    let first = match read_words(alloc, store, words, 1) {
-        Ok(set) => set,
+    let sets = match read_both(alloc, store, words, 1, 3) {
+        Ok(sets) => sets,
         Err(fault) => return stop_of(alloc, &fault),
     };
-    let second = match read_words(alloc, store, words, 3) {
-        Ok(set) => set,
-        Err(fault) => return stop_of(alloc, &fault),
-    };
-    match reported(alloc, &first, &second, &words[5]) {
+    match reported(alloc, &sets.0, &sets.1, &words[5]) {
         Ok(answer) => Ok(answer),
         Err(_) => Err(Stop::NoMemory),
     }

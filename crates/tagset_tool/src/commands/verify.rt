@@ -20,6 +20,7 @@ use jats_chars::{NoMemory, Text};
 use jats_io::Store;
 use module_reader::load_text;
 use std::alloc::Global;
+use tagset_compare::bound_of;
 
 /// The most bytes of a certificate.
 const MOST_CERTIFIED: usize = 268_435_456;
@@ -108,19 +109,6 @@ fn broken_words(alloc: Global, first: &DeclSet, broken: &Broken) -> Result<Vec<u
         "not certified {kind} {element}{state}{other}{step} {left} {right}\n"
     )?;
     Ok(line.into_bytes())
-}
-
-/// What v says of the root: none where it has no row.
-fn bound_of(first: &DeclSet, tables: &Tables) -> Cost
-    ensures { result ≡ (costs_of first.now tables.now).v tables.now.root }
-{
-    match first.index_of(&tables.root) {
-        None => Cost::Inf,
-        Some(place) => match tables.rows.get(place) {
-            None => Cost::Inf,
-            Some(row) => row.v,
-        },
-    }
 }
 
 fn claim(alloc: Global, bound: Cost) -> Result<Vec<u8>, NoMemory>
