@@ -9,8 +9,8 @@ pub fn graph_law()
     ensures carried { CostsAreCarried }
 {}
 
-/// Two sets have one table of exact costs for a root and a cap. It is accepted, since none of its inequalities fails, and
-/// it can be printed, since the states of its pairs are of 32 bits.
+/// Two sets have one table of exact costs for a root and a cap. It is accepted, since none of its inequalities fails,
+/// and it can be printed, since the states of its pairs are of 32 bits.
 pub fn tables_law()
     ensures one { OneTables }
     ensures accepted { TablesAreAccepted }

@@ -1,7 +1,10 @@
 pub mod TextSizes
-pub mod RequiredAtts
+pub mod ShownAtts
 pub mod Trees
 pub mod NextSteps
+pub mod Opened
 pub mod UnderWay
 pub mod Stepped
+pub mod Starting
 pub mod Built
+pub mod Answered

@@ -1,11 +1,10 @@
 -- The least article of an element.
-use Rattle.std.specs.Prelude.{◌≡◌, ◌≤◌, ◌<◌, ℕ, nat_le, if◌then◌else◌, length, encode_utf8_all, Option, Some, None, Result, Ok, Err}
+use Rattle.std.specs.Prelude.{◌≡◌, ◌≤◌, ◌<◌, ℕ, length, encode_utf8_all, Result, Ok, Err}
 use Rattle.content_models.specs.Model.{Chars}
 use Rattle.document_trees.specs.Trees.{Node}
 use Rattle.decl_set.specs.Asked.{IsKept}
 use Rattle.decl_set.specs.Declarations.{Declarations}
-use Rattle.tree_costs.specs.declared.cost.Cost.{Cost}
-use Rattle.tree_costs.specs.declared.cost.Cost.TheVariants.{Fin, Inf}
+use Rattle.tree_costs.specs.declared.cost.Cost.TheVariants.{Fin}
 use Rattle.tree_costs.specs.declared.least.Least.{Least}
 use Rattle.tree_costs.specs.Leasts.{m_of, p_of, IsExact}
 use Rattle.exact_tables.specs.LeastTrees.{IsLeastTree, IsBuilt}
@@ -16,11 +15,6 @@ use Rattle.separating_article.specs.declared.fault.BuildOver.TheVariants.{TextOv
 -- the least size of the element is a number up to the cap
 abbrev pub HasLeast : Declarations → Least → Chars → Type 0
 HasLeast set least root = (n : ℕ) × (m_of set least root ≡ Fin n) × (n ≤ least.cap)
-
--- a least size where it is a number up to the cap
-abbrev pub size_within : ℕ → Cost → Option ℕ
-size_within cap (Fin n) = if nat_le n cap then Some n else None
-size_within cap Inf = None
 
 -- the least tree of the element, by the table
 abbrev pub IsLeastOf : Declarations → Least → Chars → Node → Type 0

@@ -1,25 +1,30 @@
--- What a build comes to, for whatever tree is the least one.
-use Rattle.std.specs.Prelude.{◌≡◌, ◌≤◌, ◌<◌, ℕ, Some, slice_get, Result, Ok, Err}
-use Rattle.content_models.specs.declared.content.Content.{Content}
+-- What a build comes to, for whatever tree is the chosen one.
+use Rattle.std.specs.Prelude.{◌≡◌, ◌≤◌, ◌<◌, ℕ, Bool, Result, Ok, Err}
 use Rattle.content_models.specs.Model.{Chars}
 use Rattle.document_trees.specs.Trees.{Node, size}
-use Rattle.decl_set.specs.Declarations.{Declarations}
-use Rattle.tree_costs.specs.declared.least.Least.{Least}
-use Rattle.separating_article.specs.Articles.{IsLeastOf}
+use Rattle.separating_article.specs.Growing.{StandsIn}
+use Rattle.separating_article.specs.Paths.{IsTreeOf}
 use Rattle.separating_article.specs.Sizes.{written_size}
 use Rattle.separating_article.specs.declared.fault.BuildOver.{BuildOver}
 use Rattle.separating_article.specs.declared.fault.BuildOver.TheVariants.{TextOver, NoMemory}
+use Rattle.separating_article.specs.declared.growing.Growing.{Growing}
+use Rattle.separating_article.specs.declared.guide.Guide.{Guide}
 
--- a least tree that is no larger than the cap
-abbrev pub IsTree : Declarations → Least → Chars → Node → Type 0
-IsTree set least root tree = IsLeastOf set least root tree × (size tree ≤ least.cap)
+-- a chosen tree that is no larger than the cap
+abbrev pub IsTree : Guide → Bool → Chars → Node → Type 0
+IsTree guide separates root tree = IsTreeOf guide separates root tree × (size tree ≤ guide.cap)
 
-abbrev pub HasTree : Declarations → Least → Chars → Type 0
-HasTree set least root = (tree : Node) × IsTree set least root tree
+abbrev pub HasTree : Guide → Bool → Chars → Type 0
+HasTree guide separates root = (tree : Node) × IsTree guide separates root tree
 
--- the element stands at this place
-abbrev pub StandsAt : Declarations → Chars → ℕ → Type 0
-StandsAt set root place = (a : Content) × (slice_get set.elements place ≡ Some (root, a))
+-- what is started comes to the tree, or the text of the tree has too many bytes
+abbrev pub BeginsOf : Guide → ℕ → Node → Result Growing BuildOver → Type 0
+BeginsOf guide limit tree (Ok work) = StandsIn guide limit tree work
+BeginsOf guide limit tree (Err TextOver) = limit < written_size tree
+BeginsOf guide limit tree (Err NoMemory) = Unit {0}
+
+abbrev pub Begins : Guide → Bool → Chars → ℕ → Result Growing BuildOver → Type 0
+Begins guide separates root limit result = (tree : Node) → IsTree guide separates root tree → BeginsOf guide limit tree result
 
 -- what is answered, where this is the tree
 abbrev pub TellsOf : ℕ → Node → Result Node BuildOver → Type 0
@@ -27,5 +32,5 @@ TellsOf limit tree (Ok node) = (node ≡ tree) × (written_size tree ≤ limit)
 TellsOf limit tree (Err TextOver) = limit < written_size tree
 TellsOf limit tree (Err NoMemory) = Unit {0}
 
-abbrev pub Tells : Declarations → Least → Chars → ℕ → Result Node BuildOver → Type 0
-Tells set least root limit result = (tree : Node) → IsTree set least root tree → TellsOf limit tree result
+abbrev pub Tells : Guide → Bool → Chars → ℕ → Result Node BuildOver → Type 0
+Tells guide separates root limit result = (tree : Node) → IsTree guide separates root tree → TellsOf limit tree result

@@ -1,18 +1,21 @@
--- A least tree under way: elements that are started, inside one another, and the items that they still get.
-use Rattle.std.specs.Prelude.{◌≡◌, ◌<◌, ◌≤◌, ℕ, ◌+◌, ◌*◌, Bool, true, false, List, [], ◌∷◌, ◌++◌, slice_get, Option, Some, None, is_none, Result, Ok, Err}
+-- A chosen tree under way: elements that are started, inside one another, and the items that they still get.
+use Rattle.std.specs.Prelude.{◌≡◌, ◌<◌, ◌≤◌, ℕ, ◌+◌, ◌*◌, Bool, true, false, ◌&&◌, List, [], ◌∷◌, ◌++◌, slice_get, Option, Some, None, is_none, Result, Ok, Err}
 use Rattle.content_models.specs.declared.content.Content.{Content}
 use Rattle.content_models.specs.Model.{Chars}
 use Rattle.document_trees.specs.Trees.{Attribute, Items, nothing, element, Node, joined, elements_in, size}
-use Rattle.attlist_merge.specs.Shown.{required_of}
-use Rattle.decl_set.specs.Declarations.{Declarations, attributes_in}
-use Rattle.tree_costs.specs.declared.least.Least.{Least}
-use Rattle.tree_costs.specs.Leasts.{m_of, p_of}
-use Rattle.exact_tables.specs.LeastTrees.{LeastFrom}
-use Rattle.separating_article.specs.Sizes.{atts_size, names_size, items_size, written_size}
+use Rattle.tree_costs.specs.Beside.{put}
+use Rattle.separating_article.specs.Choosing.{next_step}
+use Rattle.separating_article.specs.Guides.{IsGuide}
+use Rattle.separating_article.specs.Openings.{way_of, path_of, front_of, atts_of}
+use Rattle.separating_article.specs.Paths.{IsTop, Follows}
+use Rattle.separating_article.specs.Sizes.{atts_size, front_size, names_size, items_size, written_size}
+use Rattle.separating_article.specs.declared.choosing.Step.{Step}
 use Rattle.separating_article.specs.declared.fault.BuildOver.{BuildOver}
 use Rattle.separating_article.specs.declared.fault.BuildOver.TheVariants.{TextOver, NoMemory}
+use Rattle.separating_article.specs.declared.guide.Guide.{Guide}
 use Rattle.separating_article.specs.declared.growing.Started.{Started}
 use Rattle.separating_article.specs.declared.growing.Growing.{Growing}
+use Rattle.separating_article.specs.declared.opening.Way.{Way}
 
 -- ---- an element is started
 
@@ -22,37 +25,40 @@ PutsAtts old new left more (Ok rest) = (new ≡ old ++ more) × (rest + atts_siz
 PutsAtts old new left more (Err TextOver) = left < atts_size more
 PutsAtts old new left more (Err NoMemory) = Unit {0}
 
--- the tags of an element with its required attributes, where it stays empty or where it does not
-abbrev pub start_size : Declarations → Chars → Bool → ℕ
-start_size set name empty = names_size name empty + atts_size (required_of (attributes_in set name))
+-- an element that is chosen this way, with what stands beside its elements, and nothing more in it yet
+abbrev pub begun_node : Guide → Chars → Way → Node
+begun_node guide name way = record { name = name; atts = atts_of guide name way; items = put (front_of guide name way) nothing }
 
--- an element with its required attributes that has nothing in it yet
-abbrev pub bare_node : Declarations → Chars → Node
-bare_node set name = record { name = name; atts = required_of (attributes_in set name); items = nothing }
+-- its tags and what stands beside its elements, where this step comes next
+abbrev pub begun_size : Guide → Chars → Way → Option Step → ℕ
+begun_size guide name way step =
+    names_size name (is_none (front_of guide name way) && is_none step) + atts_size (atts_of guide name way) + front_size (front_of guide name way)
 
--- the element is started, and the bytes of its tags are taken from those that are left, or there are not so many
-abbrev pub Starts : Declarations → Chars → ℕ → Option (ℕ × ℕ) → ℕ → Result (Started × ℕ) BuildOver → Type 0
-Starts set name place step left (Ok r) =
-    (r.0 ≡ record { place = place; node = bare_node set name; step = step }) × (r.1 + start_size set name (is_none step) ≡ left)
-Starts set name place step left (Err TextOver) = left < start_size set name (is_none step)
-Starts set name place step left (Err NoMemory) = Unit {0}
+-- the element is started, and these bytes are taken from those that are left, or there are not so many
+abbrev pub StartsBy : Guide → Chars → ℕ → Way → Option Step → ℕ → Result (Started × ℕ) BuildOver → Type 0
+StartsBy guide name place way step left (Ok r) =
+    (r.0 ≡ record { place = place; node = begun_node guide name way; step = step }) × (r.1 + begun_size guide name way step ≡ left)
+StartsBy guide name place way step left (Err TextOver) = left < begun_size guide name way step
+StartsBy guide name place way step left (Err NoMemory) = Unit {0}
+
+-- the same, the way chosen by whether the tree separates
+abbrev pub Starts : Guide → Chars → ℕ → Bool → ℕ → Result (Started × ℕ) BuildOver → Type 0
+Starts guide name place separates =
+    let way = way_of guide place name separates in StartsBy guide name place way (next_step guide place (path_of way))
 
 -- ---- what is still to come
 
-module _ (set : Declarations) (least : Least) where
-  abbrev pub Grows : Chars → Content → ℕ → Items → Type 0
-  Grows = LeastFrom set least.cap (m_of set least) (p_of set least)
-
+module _ (guide : Guide) where
   -- the items that still come where this step comes next
-  abbrev pub IsNext : Chars → Content → Option (ℕ × ℕ) → Items → Type 0
+  abbrev pub IsNext : Chars → Content → Option Step → Items → Type 0
   IsNext e a None rest = rest ≡ nothing
   IsNext e a (Some s) rest =
-      (name : Chars) × (b : Content) × (inside : Items) × (later : Items) × (rest ≡ element name (required_of (attributes_in set name)) inside later)
-      × (slice_get set.elements s.0 ≡ Some (name, b)) × Grows name b 0 inside × Grows e a s.1 later
+      (name : Chars) × (b : Content) × (atts : List Attribute) × (inside : Items) × (later : Items) × (rest ≡ element name atts inside later)
+      × (slice_get guide.first.now.elements s.place ≡ Some (name, b)) × IsTop guide s.separates name atts inside × Follows guide s.path e a later
 
   -- the items that a started element still gets
   abbrev pub Gets : Started → Items → Type 0
-  Gets w rest = (a : Content) × (slice_get set.elements w.place ≡ Some (w.node.name, a)) × IsNext w.node.name a w.step rest
+  Gets w rest = (a : Content) × (slice_get guide.first.now.elements w.place ≡ Some (w.node.name, a)) × IsNext w.node.name a w.step rest
 
   -- those that each of these gets
   abbrev pub EachGets : List Started → List Items → Type 0
@@ -78,17 +84,17 @@ all_size (r ∷ rs) = items_size r + all_size rs
 
 -- What is started comes to this tree, which is no larger than the cap; and with what is left of the text all that still
 -- comes is within its limit exactly where the tree is.
-pub record Stands (set : Declarations) (least : Least) (limit : ℕ) (tree : Node) (left : ℕ) (inner : Started) (outer : List Started) : Type 0 where
+pub record Stands (guide : Guide) (limit : ℕ) (tree : Node) (left : ℕ) (inner : Started) (outer : List Started) : Type 0 where
   pub rest : Items
   pub rests : List Items
-  pub gets : Gets set least inner rest
-  pub each : EachGets set least outer rests
+  pub gets : Gets guide inner rest
+  pub each : EachGets guide outer rests
   pub whole : around outer rests (ended inner.node rest) ≡ tree
   pub room : left + written_size tree ≡ limit + (items_size rest + all_size rests)
-  pub small : size tree ≤ least.cap
+  pub small : size tree ≤ guide.cap
 
-abbrev pub StandsIn : Declarations → Least → ℕ → Node → Growing → Type 0
-StandsIn set least limit tree work = Stands set least limit tree work.left work.inner work.outer.items
+abbrev pub StandsIn : Guide → ℕ → Node → Growing → Type 0
+StandsIn guide limit tree work = Stands guide limit tree work.left work.inner work.outer.items
 
 -- how many steps were done for elements that are started
 abbrev pub steps_of : List Started → ℕ
@@ -99,43 +105,46 @@ unfoldable pub done : Growing → ℕ
 done work = steps_of work.outer.items + (2 * elements_in work.inner.node.items + 1)
 
 -- there is a tree that it comes to
-abbrev pub IsUnderWay : Declarations → Least → Growing → Type 0
-IsUnderWay set least work = (limit : ℕ) × (tree : Node) × StandsIn set least limit tree work
+abbrev pub ComesTo : Guide → Growing → Type 0
+ComesTo guide work = (limit : ℕ) × (tree : Node) × StandsIn guide limit tree work
+
+abbrev pub IsUnderWay : Guide → Growing → Type 0
+IsUnderWay guide work = IsGuide guide × ComesTo guide work
 
 -- it comes to the same tree
-abbrev pub Keeps : Declarations → Least → Growing → Growing → Type 0
-Keeps set least old new = (limit : ℕ) (tree : Node) → StandsIn set least limit tree old → StandsIn set least limit tree new
+abbrev pub Keeps : Guide → Growing → Growing → Type 0
+Keeps guide old new = (limit : ℕ) (tree : Node) → StandsIn guide limit tree old → StandsIn guide limit tree new
 
 -- it comes to the same tree, and one step more is done
-abbrev pub GoesOn : Declarations → Least → Growing → Growing → Type 0
-GoesOn set least old new = Keeps set least old new × (done new ≡ done old + 1)
+abbrev pub GoesOn : Guide → Growing → Growing → Type 0
+GoesOn guide old new = Keeps guide old new × (done new ≡ done old + 1)
 
 -- it is the tree, and so much is left of the limit
-abbrev pub IsWhole : Declarations → Least → Growing → Growing → Type 0
-IsWhole set least old new = (limit : ℕ) (tree : Node) → StandsIn set least limit tree old → (new.inner.node ≡ tree) × (new.left + written_size tree ≡ limit)
+abbrev pub IsWhole : Guide → Growing → Growing → Type 0
+IsWhole guide old new = (limit : ℕ) (tree : Node) → StandsIn guide limit tree old → (new.inner.node ≡ tree) × (new.left + written_size tree ≡ limit)
 
 -- the text of the tree has more bytes than the limit
-abbrev pub IsOver : Declarations → Least → Growing → Type 0
-IsOver set least old = (limit : ℕ) (tree : Node) → StandsIn set least limit tree old → limit < written_size tree
+abbrev pub IsOver : Guide → Growing → Type 0
+IsOver guide old = (limit : ℕ) (tree : Node) → StandsIn guide limit tree old → limit < written_size tree
 
 -- a step goes on, or all is done, or the text has too many bytes
-abbrev pub Steps : Declarations → Least → Growing → Growing → Result Bool BuildOver → Type 0
-Steps set least old new (Ok true) = GoesOn set least old new
-Steps set least old new (Ok false) = IsWhole set least old new
-Steps set least old new (Err TextOver) = IsOver set least old
-Steps set least old new (Err NoMemory) = Unit {0}
+abbrev pub Steps : Guide → Growing → Growing → Result Bool BuildOver → Type 0
+Steps guide old new (Ok true) = GoesOn guide old new
+Steps guide old new (Ok false) = IsWhole guide old new
+Steps guide old new (Err TextOver) = IsOver guide old
+Steps guide old new (Err NoMemory) = Unit {0}
 
 -- the same where a step is there
-abbrev pub Enters : Declarations → Least → Growing → Growing → Result (Unit {0}) BuildOver → Type 0
-Enters set least old new (Ok u) = GoesOn set least old new
-Enters set least old new (Err TextOver) = IsOver set least old
-Enters set least old new (Err NoMemory) = Unit {0}
+abbrev pub Enters : Guide → Growing → Growing → Result (Unit {0}) BuildOver → Type 0
+Enters guide old new (Ok u) = GoesOn guide old new
+Enters guide old new (Err TextOver) = IsOver guide old
+Enters guide old new (Err NoMemory) = Unit {0}
 
 -- all that is left is done
-abbrev pub Grown : Declarations → Least → Growing → Growing → Result (Unit {0}) BuildOver → Type 0
-Grown set least old new (Ok u) = IsWhole set least old new
-Grown set least old new (Err TextOver) = IsOver set least old
-Grown set least old new (Err NoMemory) = Unit {0}
+abbrev pub Grown : Guide → Growing → Growing → Result (Unit {0}) BuildOver → Type 0
+Grown guide old new (Ok u) = IsWhole guide old new
+Grown guide old new (Err TextOver) = IsOver guide old
+Grown guide old new (Err NoMemory) = Unit {0}
 
 -- an element behind the others in an element that is started
 abbrev pub with_child : Started → Node → Started

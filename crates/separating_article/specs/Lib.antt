@@ -1,5 +1,8 @@
-pub mod Sizes
+pub mod Guides
+pub mod Paths
 pub mod Choosing
+pub mod Openings
+pub mod Sizes
 pub mod Growing
 pub mod Articles
 pub mod Separating

@@ -3,6 +3,7 @@ use Rattle.std.specs.Prelude.{◌≡◌, ◌<◌, ℕ, ◌+◌, Bool, true, fals
 use Rattle.std.specs.List.{flat_map}
 use Rattle.document_trees.specs.Trees.{Attribute, Items, Node}
 use Rattle.document_trees.specs.Trees as tree
+use Rattle.tree_costs.specs.Beside.{Front}
 use Rattle.article_tree.specs.Writing.{value_char, written_run, written_comment, written_pi, write}
 
 -- the bytes of a text
@@ -24,6 +25,11 @@ names_size name empty = 3 + bytes name + (if empty then 0 else 2 + bytes name)
 abbrev pub is_empty : Items → Bool
 is_empty tree.nothing = true
 is_empty items = false
+
+-- a run in front, where there is one
+abbrev pub front_size : Front → ℕ
+front_size None = 0
+front_size (Some run) = bytes (written_run run.0 run.1)
 
 -- the text of items
 abbrev pub items_size : Items → ℕ

@@ -1,87 +1,39 @@
-//! The next step of a least tree.
+//! The next step of a chosen tree.
 
-ghost use Rattle.std.specs.Prelude.{◌≡◌, ◌≤◌, map, option_map, option_and_then, slice_get};
+ghost use Rattle.std.specs.Prelude.{◌≡◌, ◌≤◌, ℕ, List, option_map, slice_get};
 ghost use Rattle.std.specs.Option.{option_copied};
-ghost use Rattle.decl_set.specs.Children.{child_step};
 ghost use Rattle.decl_set.specs.Steps.{steps_at};
 ghost use Rattle.separating_article.specs.Choosing as spec;
+ghost use Rattle.separating_article.specs.Guides.{IsGuide};
 
+use crate::guide::Guide;
 use decl_set::DeclSet;
+use jats_chars::Name;
 use position_automata::Automaton;
-use tree_costs::{Cost, Least, LeastRow, at_most, sum};
+use tree_costs::{Cost, at_most, sum};
+
+/// Where the items of an element go on: along P from a state of its content in the first set, along F, or along G from a
+/// pair of states of both sets.
+#[derive(Clone, Copy, Debug, PartialEq, Eq)]
+pub enum Path {
+    Own(u32),
+    Wrong(u32),
+    Pair(u32, u32),
+}
+
+/// A step that is taken: the place of its element, whether the element's tree separates, and the path behind it.
+#[derive(Clone, Copy, Debug, PartialEq, Eq)]
+pub struct Step {
+    pub place: usize,
+    pub separates: bool,
+    pub path: Path,
+}
 
 /// Whether two costs are the same.
-fn is_same(left: Cost, right: Cost) -> bool
+pub fn is_same(left: Cost, right: Cost) -> bool
     ensures { result ≡ spec.is_same left right }
 {
     at_most(left, right) && at_most(right, left)
-}
-
-/// The least size of the element at a place: none where there is no such element.
-pub fn m_at(least: &Least, place: Option<usize>) -> Cost
-    ensures { result ≡ spec.m_at least.now place }
-{
-    match place {
-        None => Cost::Inf,
-        Some(e) => match least.rows.get(e) {
-            None => Cost::Inf,
-            Some(row) => row.m,
-        },
-    }
-}
-
-fn p_in(row: &LeastRow, state: u32) -> Option<Cost>
-    ensures { result ≡ slice_get row.now.p state }
-{
-    row.p.get(state as usize).copied()
-}
-
-/// The least sum from a state of the element at a place: none where there is no such state.
-fn p_at(least: &Least, e: usize, state: u32) -> Cost
-    ensures { result ≡ spec.p_at least.now e state }
-{
-    match least.rows.get(e) {
-        None => Cost::Inf,
-        Some(row) => match p_in(row, state) {
-            None => Cost::Inf,
-            Some(cost) => cost,
-        },
-    }
-}
-
-/// Whether a step attains the least sum of the state.
-fn attains(least: &Least, e: usize, state: u32, child: (Option<usize>, u32)) -> bool
-    requires { least.now.cap ≤ 100000 }
-    ensures { result ≡ spec.attains least.now e state child }
-{
-    let there = sum(m_at(least, child.0), p_at(least, e, child.1), least.cap);
-    is_same(p_at(least, e, state), there)
-}
-
-/// The k-th step of a state of the element at a place.
-fn step_from(set: &DeclSet, e: usize, state: u32, k: usize) -> Option<(Option<usize>, u32)>
-    ensures { result ≡ slice_get (spec.steps_from set.now e state) k }
-{
-    set.child_at(e, state, k)
-}
-
-/// The first step of a state that attains its least sum. A state has at most 1,024 steps.
-fn first_step(set: &DeclSet, least: &Least, e: usize, state: u32) -> Option<(Option<usize>, u32)>
-    requires { least.now.cap ≤ 100000 }
-    ensures { result ≡ spec.first_step set.now least.now e state }
-{
-    let _ = set.count();
-    for k in 0..1024 {
-        match step_from(set, e, state, k) {
-            None => return None,
-            Some(child) => {
-                if attains(least, e, state, child) {
-                    return Some(child);
-                }
-            }
-        }
-    }
-    None
 }
 
 /// The automaton of the element at a place.
@@ -95,30 +47,226 @@ fn automaton_at(set: &DeclSet, e: usize) -> Option<&Automaton>
     }
 }
 
-/// Whether a state of the element at a place accepts.
-fn accepts_at(set: &DeclSet, e: usize, state: u32) -> bool
-    ensures { result ≡ spec.accepts_in (slice_get set.now.elements e) state }
+/// The automaton of that element in the second set.
+fn other_automaton<'a>(guide: &Guide<'a>, e: usize) -> Option<&'a Automaton>
+    ensures { option_copied result ≡ spec.other_content guide.now e }
 {
-    match automaton_at(set, e) {
+    match guide.first.name_at(e) {
+        None => None,
+        Some(name) => guide.second.automaton_of(name),
+    }
+}
+
+/// Whether a state accepts, where there is one.
+fn accepts_in(automaton: Option<&Automaton>, state: u32) -> bool
+    ensures { result ≡ spec.accepts_in (option_copied automaton.entry) state }
+{
+    match automaton {
         None => false,
         Some(automaton) => state < automaton.states() && automaton.accepts_at(state),
     }
 }
 
-/// The step that a least tree takes from a state of the element at a place, with the place of the step's element: none
-/// where the state accepts, else the first step that attains the least sum.
-pub fn next_step(set: &DeclSet, least: &Least, e: usize, state: u32) -> Option<(usize, u32)>
-    requires { least.now.cap ≤ 100000 }
-    ensures { result ≡ spec.next_step set.now least.now e state }
+/// Where the second set steps from a state of the element at a place.
+fn other_step(guide: &Guide, e: usize, state: u32, on: &Name) -> Option<u32>
+    ensures { result ≡ spec.step_in (spec.other_content guide.now e) state on.now }
 {
-    if accepts_at(set, e, state) {
+    match other_automaton(guide, e) {
+        None => None,
+        Some(automaton) => {
+            if state < automaton.states() {
+                automaton.step(state, on)
+            } else {
+                None
+            }
+        }
+    }
+}
+
+/// The cost of what follows a step.
+fn past(guide: &Guide, e: usize, state: u32, other: Option<u32>) -> Cost
+    requires { IsGuide guide.now }
+    ensures { result ≡ spec.past_at guide.now e state other }
+{
+    match other {
+        Some(second) => guide.g(e, state, second),
+        None => guide.p(e, state),
+    }
+}
+
+/// Whether a step attains P of the state.
+fn attains_own(guide: &Guide, e: usize, state: u32, on: &Name, to: u32) -> bool
+    requires { IsGuide guide.now }
+    ensures { result ≡ spec.attains_own guide.now e state (on.now, to) }
+{
+    let child = guide.first.index_of(on);
+    is_same(
+        guide.p(e, state),
+        sum(guide.m(child), guide.p(e, to), guide.cap),
+    )
+}
+
+/// Whether a step attains F of the state with a child that separates.
+fn attains_here(guide: &Guide, e: usize, state: u32, on: &Name, to: u32) -> bool
+    requires { IsGuide guide.now }
+    ensures { result ≡ spec.attains_here guide.now e state (on.now, to) }
+{
+    let child = guide.first.index_of(on);
+    is_same(
+        guide.f(e, state),
+        sum(guide.v(child), guide.p(e, to), guide.cap),
+    )
+}
+
+/// Whether a step attains F of the state with one that separates later.
+fn attains_later(guide: &Guide, e: usize, state: u32, on: &Name, to: u32) -> bool
+    requires { IsGuide guide.now }
+    ensures { result ≡ spec.attains_later guide.now e state (on.now, to) }
+{
+    let child = guide.first.index_of(on);
+    is_same(
+        guide.f(e, state),
+        sum(guide.m(child), guide.f(e, to), guide.cap),
+    )
+}
+
+/// Whether a step attains G of the pair.
+fn attains_odd(guide: &Guide, e: usize, pair: (u32, u32), on: &Name, to: u32) -> bool
+    requires { IsGuide guide.now }
+    ensures { result ≡ spec.attains_odd guide.now e pair.0 pair.1 (on.now, to) }
+{
+    let child = guide.first.index_of(on);
+    let behind = past(guide, e, to, other_step(guide, e, pair.1, on));
+    is_same(
+        guide.g(e, pair.0, pair.1),
+        sum(guide.m(child), behind, guide.cap),
+    )
+}
+
+/// Whether a step attains what is least.
+fn attains(guide: &Guide, e: usize, path: Path, on: &Name, to: u32) -> bool
+    requires { IsGuide guide.now }
+    ensures { result ≡ spec.attains guide.now e path (on.now, to) }
+{
+    match path {
+        Path::Own(i) => attains_own(guide, e, i, on, to),
+        Path::Wrong(i) => {
+            attains_here(guide, e, i, on, to) || attains_later(guide, e, i, on, to)
+        }
+        Path::Pair(i, j) => attains_odd(guide, e, (i, j), on, to),
+    }
+}
+
+/// The state of the first set at which a path stands.
+fn state_of(path: Path) -> u32
+    ensures { result ≡ spec.state_of path }
+{
+    match path {
+        Path::Own(i) => i,
+        Path::Wrong(i) => i,
+        Path::Pair(i, _) => i,
+    }
+}
+
+/// The k-th step of the state at which a path stands.
+fn step_from<'a>(guide: &Guide<'a>, e: usize, path: Path, k: usize) -> Option<(&'a Name, u32)>
+    ensures { option_map {U = List ℕ × ℕ} (λ s. (s.0.now, s.1)) result ≡ slice_get (steps_at guide.now.first.now (slice_get guide.now.first.now.elements e) (spec.state_of path)) k }
+{
+    guide.first.step_at(e, state_of(path), k)
+}
+
+/// The first step that attains what is least. A state has at most 1,024 steps.
+fn first_step<'a>(guide: &Guide<'a>, e: usize, path: Path) -> Option<(&'a Name, u32)>
+    requires { IsGuide guide.now }
+    ensures { option_map {U = List ℕ × ℕ} (λ s. (s.0.now, s.1)) result ≡ spec.first_step guide.now e path }
+{
+    for k in 0..1024 {
+        match step_from(guide, e, path, k) {
+            None => return None,
+            Some(child) => {
+                if attains(guide, e, path, child.0, child.1) {
+                    return Some(child);
+                }
+            }
+        }
+    }
+    None
+}
+
+/// Whether a path ends.
+fn ends(guide: &Guide, e: usize, path: Path) -> bool
+    requires { IsGuide guide.now }
+    ensures { result ≡ spec.ends guide.now e path }
+{
+    match path {
+        Path::Own(i) => accepts_in(automaton_at(guide.first, e), i),
+        Path::Wrong(_) => false,
+        Path::Pair(i, j) => {
+            is_same(guide.g(e, i, j), Cost::Fin(0))
+                && accepts_in(automaton_at(guide.first, e), i)
+                && !accepts_in(other_automaton(guide, e), j)
+        }
+    }
+}
+
+/// Whether the child of a step separates.
+fn has_wrong(guide: &Guide, e: usize, path: Path, on: &Name, to: u32) -> bool
+    requires { IsGuide guide.now }
+    ensures { result ≡ spec.has_wrong guide.now e path (on.now, to) }
+{
+    match path {
+        Path::Wrong(i) => attains_here(guide, e, i, on, to),
+        _ => false,
+    }
+}
+
+/// The path behind a step.
+fn path_behind(guide: &Guide, e: usize, path: Path, on: &Name, to: u32) -> Path
+    requires { IsGuide guide.now }
+    ensures { result ≡ spec.path_behind guide.now e path (on.now, to) }
+{
+    match path {
+        Path::Own(_) => Path::Own(to),
+        Path::Wrong(i) => {
+            if attains_here(guide, e, i, on, to) {
+                Path::Own(to)
+            } else {
+                Path::Wrong(to)
+            }
+        }
+        Path::Pair(_, j) => match other_step(guide, e, j, on) {
+            Some(second) => Path::Pair(to, second),
+            None => Path::Own(to),
+        },
+    }
+}
+
+/// A step on an element that is declared.
+fn taken(guide: &Guide, e: usize, path: Path, on: &Name, to: u32) -> Option<Step>
+    requires { IsGuide guide.now }
+    ensures { result ≡ spec.taken guide.now e path (on.now, to) }
+{
+    match guide.first.index_of(on) {
+        None => None,
+        Some(place) => Some(Step {
+            place,
+            separates: has_wrong(guide, e, path, on, to),
+            path: path_behind(guide, e, path, on, to),
+        }),
+    }
+}
+
+/// The step that a chosen tree takes from where its path stands in the element at a place: none where the path ends, else
+/// the first step that attains what is least.
+pub fn next_step(guide: &Guide, e: usize, path: Path) -> Option<Step>
+    requires { IsGuide guide.now }
+    ensures { result ≡ spec.next_step guide.now e path }
+{
+    if ends(guide, e, path) {
         return None;
     }
-    match first_step(set, least, e, state) {
+    match first_step(guide, e, path) {
         None => None,
-        Some((child, next)) => match child {
-            None => None,
-            Some(place) => Some((place, next)),
-        },
+        Some((on, to)) => taken(guide, e, path, on, to),
     }
 }

@@ -9,11 +9,14 @@
 //! `specs/Growing.antt` says what a tree under way still comes to, and `specs/Sizes.antt` how many bytes a text has.
 #![tactic(auto)]
 
+mod building;
 mod choosing;
 mod fault;
 mod growing;
+mod guide;
 mod laws;
 mod least;
+mod opening;
 mod required;
 mod separated;
 mod spending;
@@ -22,5 +25,5 @@ mod tests;
 
 pub use fault::BuildOver;
 pub use laws::{least_law, separating_law, size_law};
-pub use least::{least_article, least_size};
+pub use least::least_article;
 pub use separated::separating;

@@ -1,15 +1,16 @@
-//! The required attributes of an element, with their samples.
+//! The attributes of a chosen tree.
 
 ghost use Rattle.std.specs.Prelude.{◌≡◌, [], ◌∷◌, None, slice_get, unwrap_or};
 ghost use Rattle.std.specs.Option.{option_copied, option_map_or};
 ghost use Rattle.attlist_merge.specs.Lists.{IsSound};
 ghost use Rattle.attlist_merge.specs.Oddness.{chosen};
-ghost use Rattle.attlist_merge.specs.Shown.{required_of};
 ghost use Rattle.separating_article.specs.Growing.{PutsAtts};
+ghost use Rattle.separating_article.specs.Openings.{value_at as value_of, values_by};
 
 use crate::BuildOver;
+use crate::opening::value_at;
 use crate::spending::spend_attribute;
-use attlist_merge::{AttList, Definition};
+use attlist_merge::{AttList, Definition, OddAtt};
 use attribute_types::{Preset, sample};
 use document_trees::AttValues;
 use jats_chars::{Name, Text};
@@ -54,33 +55,55 @@ fn put_required(
     }
 }
 
-fn put_required_at(
+/// Puts an attribute behind others with the value that shows what is odd, or with its sample where it is required.
+fn put_chosen(
     alloc: Global,
     atts: &mut AttValues,
     left: u64,
-    list: &AttList,
-    at: usize,
+    odd: Option<&OddAtt>,
+    entry: (&Name, &Definition),
 ) -> Result<u64, BuildOver>
-    ensures { PutsAtts atts.old atts.new left (option_map_or (chosen None) (slice_get list.now at) []) result }
+    requires { IsSound (entry.0.now, entry.1.now) }
+    ensures { PutsAtts atts.old atts.new left (chosen (value_of (option_copied odd.entry) entry.entry.0.now) (entry.entry.0.now, entry.entry.1.now)) result }
 {
-    match list.get(at) {
-        None => Ok(left),
-        Some((name, definition)) => put_required(alloc, atts, left, name, definition),
+    match value_at(odd, entry.0) {
+        None => put_required(alloc, atts, left, entry.0, entry.1),
+        Some(value) => {
+            let value = value.copy(alloc)?;
+            put_attribute(alloc, atts, left, entry.0, value)
+        }
     }
 }
 
-/// Puts the required attributes of a list behind others, in order.
+fn put_chosen_at(
+    alloc: Global,
+    atts: &mut AttValues,
+    left: u64,
+    odd: Option<&OddAtt>,
+    list: &AttList,
+    at: usize,
+) -> Result<u64, BuildOver>
+    ensures { PutsAtts atts.old atts.new left (option_map_or (λ e. chosen (value_of (option_copied odd.entry) e.0) e) (slice_get list.now at) []) result }
+{
+    match list.get(at) {
+        None => Ok(left),
+        Some(entry) => put_chosen(alloc, atts, left, odd, entry),
+    }
+}
+
+/// Puts the attributes of a list behind others, in order.
 fn put_each(
     alloc: Global,
     atts: &mut AttValues,
     room: u64,
+    odd: Option<&OddAtt>,
     list: &AttList,
 ) -> Result<u64, BuildOver>
-    ensures { PutsAtts atts.old atts.new room (required_of list.now) result }
+    ensures { PutsAtts atts.old atts.new room (values_by (option_copied odd.entry) list.now) result }
 {
     let mut left = room;
     for at in 0..list.len() {
-        match put_required_at(alloc, atts, left, list, at) {
+        match put_chosen_at(alloc, atts, left, odd, list, at) {
             Err(over) => return Err(over),
             Ok(rest) => left = rest,
         }
@@ -88,18 +111,19 @@ fn put_each(
     Ok(left)
 }
 
-/// The required attributes of an element with their samples, from its list: None where it has none. Their bytes are taken
-/// from those that are left.
-pub fn put_all_required(
+/// The required attributes of an element with their samples, and the value that shows what is odd in the place of its name,
+/// from the element's list: None where it has none. Their bytes are taken from those that are left.
+pub fn put_all(
     alloc: Global,
     atts: &mut AttValues,
     left: u64,
+    odd: Option<&OddAtt>,
     list: Option<&AttList>,
 ) -> Result<u64, BuildOver>
-    ensures { PutsAtts atts.old atts.new left (required_of (unwrap_or (option_copied list.entry) [])) result }
+    ensures { PutsAtts atts.old atts.new left (values_by (option_copied odd.entry) (unwrap_or (option_copied list.entry) [])) result }
 {
     match list {
         None => Ok(left),
-        Some(list) => put_each(alloc, atts, left, list),
+        Some(list) => put_each(alloc, atts, left, odd, list),
     }
 }

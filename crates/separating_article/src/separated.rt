@@ -5,6 +5,8 @@ ghost use Rattle.bound_checker.specs.Tabled.{Fits};
 ghost use Rattle.separating_article.specs.Separating as spec;
 
 use crate::BuildOver;
+use crate::building::build;
+use crate::guide::{Book, Guide};
 use bound_checker::Tables;
 use decl_set::DeclSet;
 use document_trees::Node;
@@ -27,5 +29,13 @@ pub fn separating(
     requires least { spec.HasSeparating first.now tables.now }
     ensures { spec.Separates first.now second.now tables.now limit result }
 {
-    Err(BuildOver::NoMemory)
+    let _ = first.count();
+    let _ = second.count();
+    let guide = Guide {
+        first,
+        second,
+        cap: tables.cap,
+        book: Book::Two(tables),
+    };
+    build(alloc, &guide, &tables.root, true, limit)
 }

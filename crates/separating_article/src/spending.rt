@@ -1,10 +1,12 @@
 //! The bytes of a text, taken from those that are left.
 
-ghost use Rattle.std.specs.Prelude.{◌≡◌, ◌+◌, if◌then◌else◌};
+ghost use Rattle.std.specs.Prelude.{◌≡◌, ◌+◌, ◌&&◌, if◌then◌else◌, is_none, option_map};
 ghost use Rattle.std.specs.List.{flat_map};
 ghost use Rattle.article_tree.specs.Writing.{value_char};
-ghost use Rattle.separating_article.specs.Sizes.{Spends, attribute_size, bytes, names_size};
+ghost use Rattle.separating_article.specs.Openings.{run_of};
+ghost use Rattle.separating_article.specs.Sizes.{Spends, attribute_size, bytes, front_size, names_size};
 
+use crate::choosing::Step;
 use jats_chars::{Name, Text};
 
 /// What is left, or None exactly where fewer bytes are left than are taken.
@@ -61,7 +63,7 @@ pub fn spend_attribute(left: u64, name: &Name, value: &Text) -> Option<u64>
 }
 
 /// Takes the bytes of the tags of an element without its attributes: of one tag where it is empty, else of two.
-pub fn spend_tags(left: u64, name: &Name, empty: bool) -> Option<u64>
+fn spend_tags(left: u64, name: &Name, empty: bool) -> Option<u64>
     ensures { Spends left (names_size name.now empty) result }
 {
     let left = spend(left, 3)?;
@@ -71,4 +73,23 @@ pub fn spend_tags(left: u64, name: &Name, empty: bool) -> Option<u64>
     }
     let left = spend(left, 2)?;
     spend_text(left, name.text().as_slice())
+}
+
+/// Takes the byte of a run that stands in front of the elements, where there is one.
+fn spend_front(left: u64, front: Option<bool>) -> Option<u64>
+    ensures { Spends left (front_size (option_map run_of front)) result }
+{
+    match front {
+        None => Some(left),
+        Some(_) => spend(left, 1),
+    }
+}
+
+/// Takes the bytes of the tags of an element without its attributes, and of a run in front of its elements; where no step
+/// comes, no elements stand in it.
+pub fn spend_start(left: u64, name: &Name, front: Option<bool>, step: Option<Step>) -> Option<u64>
+    ensures { Spends left (names_size name.now (is_none front && is_none step) + front_size (option_map run_of front)) result }
+{
+    let left = spend_tags(left, name, front.is_none() && step.is_none())?;
+    spend_front(left, front)
 }

@@ -1,6 +1,6 @@
 //! The least article of an element that may be empty.
 
-use crate::{BuildOver, least_article, least_size};
+use crate::{BuildOver, least_article};
 use content_models::Content;
 use decl_set::{DeclFault, DeclSet};
 use document_trees::Node;

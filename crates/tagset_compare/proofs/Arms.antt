@@ -1,15 +1,13 @@
 -- What the arms of a comparison answer.
-use Rattle.std.proofs.Common.{◌≡◌, ◌≤◌, ◌<◌, ◌+◌, ℕ, min, List, [], ◌∷◌, Some, None, inl, inr, sym, ap, ◌∙◌, subst, refl, arith, slice_get}
-use Rattle.std.specs.Prelude.{Result}
+use Rattle.std.proofs.Common.{◌≡◌, ◌≤◌, ◌+◌, ℕ, List, [], ◌∷◌, Some, None, sym, subst, refl, slice_get}
 use Rattle.content_models.specs.Model.{Chars}
-use Rattle.document_trees.specs.Trees.{Node, EachNode, size}
+use Rattle.document_trees.specs.Trees.{Node, EachNode}
 use Rattle.decl_set.specs.Asked.{IsKept}
 use Rattle.decl_set.specs.Declarations.{Declarations}
 use Rattle.decl_set.specs.Validity.{IsSeparating, Meets}
 use Rattle.decl_set.specs.Breaks.{IsFirstBroken}
 use Rattle.decl_set.specs.declared.breaks.BrokenDecl.{BrokenDecl}
-use Rattle.tree_costs.specs.declared.cost.Cost.{Cost}
-use Rattle.tree_costs.specs.declared.cost.Cost.TheVariants.{Fin, Inf}
+use Rattle.tree_costs.specs.declared.cost.Cost.TheVariants.{Fin}
 use Rattle.bound_checker.specs.declared.tables.Tables.{Tables}
 use Rattle.bound_checker.specs.Tabled.{costs_of}
 use Rattle.exact_tables.specs.Chosen.{IsChosen}
@@ -21,9 +19,6 @@ use Rattle.tagset_report.proofs.Broken.{none_is_listed}
 use Rattle.tagset_report.proofs.Firsts.{first_listed}
 use Rattle.comparison_tables.specs.Outcome.{AreExactTables}
 use Rattle.separating_article.specs.Separating.{HasSeparating, IsChosenOf}
-use Rattle.tagset_compare.specs.declared.fault.CompareFault.{CompareFault}
-use Rattle.tagset_compare.specs.declared.outcome.Verdict.{Verdict}
-use Rattle.tagset_compare.specs.Compared.{Compares}
 
 none_first : {X : Type 0} (xs : List X) → slice_get xs 0 ≡ None → xs ≡ []
 none_first [] e = refl

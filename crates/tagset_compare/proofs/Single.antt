@@ -1,10 +1,10 @@
 -- Two answers to one comparison are one.
-use Rattle.std.proofs.Common.{◌≡◌, ◌≤◌, ◌<◌, ◌+◌, ℕ, List, [], ◌∷◌, ◌++◌, Some, None, Ok, Err, IsTrue, refl, sym, ap, ◌∙◌, subst, arith, true≢false}
+use Rattle.std.proofs.Common.{◌≡◌, ◌≤◌, ◌+◌, ℕ, List, [], ◌∷◌, ◌++◌, Some, None, Ok, Err, IsTrue, refl, sym, ap, ◌∙◌, subst, arith, true≢false}
 use Rattle.std.specs.Prelude.{Option, Result, is_some}
 use Rattle.std.specs.List.{AllByRecursion}
 use Rattle.content_models.specs.declared.content.Content.{Content}
 use Rattle.content_models.specs.Model.{Chars}
-use Rattle.document_trees.specs.Trees.{Node, size}
+use Rattle.document_trees.specs.Trees.{Node}
 use Rattle.decl_set.specs.Asked as set
 use Rattle.decl_set.specs.Declarations.{Declarations, Element, content_in, attributes_in}
 use Rattle.decl_set.specs.Breaks.{Breaks, IsKept, IsFirstBroken}
@@ -27,9 +27,8 @@ use Rattle.tagset_compare.specs.declared.fault.CompareFault.TheVariants.{RootUnd
 use Rattle.tagset_compare.specs.declared.outcome.Verdict.{Verdict}
 use Rattle.tagset_compare.specs.declared.outcome.Verdict.TheVariants.{Subset, Not, Over}
 use Rattle.tagset_compare.specs.Compared.{IsArticle, IsBrokenAt, Compares}
-use Rattle.tagset_compare.specs.Verdicts.{tables_in, bound_in, OneVerdict}
-use Rattle.tagset_compare.proofs.Arms.{root_bound, bound_within, article_is_built}
-use Rattle.tagset_compare.proofs.Telling.{bound_told}
+use Rattle.tagset_compare.specs.Verdicts.{tables_in, OneVerdict}
+use Rattle.tagset_compare.proofs.Arms.{root_bound, bound_within}
 
 -- ---- the first element that breaks is one
 

@@ -1,6 +1,6 @@
 //! Two sets compared.
 
-ghost use Rattle.std.specs.Prelude.{◌≡◌, ◌≤◌, ◌<◌, ◌+◌};
+ghost use Rattle.std.specs.Prelude.{◌≡◌, ◌≤◌, ◌+◌};
 ghost use Rattle.tree_costs.specs.declared.cost.Cost.TheVariants.{Fin};
 ghost use Rattle.bound_checker.specs.Tabled.{costs_of};
 ghost use Rattle.comparison_tables.specs.Outcome.{AreExactTables};

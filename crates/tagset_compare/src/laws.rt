@@ -2,16 +2,12 @@
 
 ghost use Rattle.tagset_compare.specs.Verdicts.{BoundIsTold, OneVerdict, VerdictIsTrue};
 
-use separating_article::separating_law;
-
 /// What a verdict says of all documents of two sets is true, and the bound that its tables have for the root is the one that
 /// it tells: none, the size of the article, or one above the cap.
 pub fn verdict_law()
     ensures says { VerdictIsTrue }
     ensures bound { BoundIsTold }
-{
-    separating_law();
-}
+{}
 
 /// For two sets, a root, a cap and a limit one answer is right at most, but for want of memory.
 pub fn one_law()

@@ -1,13 +1,15 @@
-use Rattle.separating_article.proofs.Built.{has_tree, builds, at_place}
+use Rattle.separating_article.proofs.Answered.{has_least, builds}
 use Rattle.separating_article.proofs.least.least_article.Goals as goal
 
-pub build_at-requires-clause-place : goal.build_at-requires-clause-place
-build_at-requires-clause-place c = at_place c.args.set.now c.args.least.now c.args.root.now c.args.limit c.count.ensures.kept c.in-Some.place c.in-Some.ensures
+pub build-requires-clause-guide : goal.build-requires-clause-guide
+build-requires-clause-guide c = record { first = c.count.ensures.kept; second = c.count.ensures.kept; cap = c.requires.cap; order = tt }
 
-pub build_at-requires-clause-tree : goal.build_at-requires-clause-tree
-build_at-requires-clause-tree c = has_tree c.args.set.now c.args.least.now c.args.root.now c.args.limit c.count.ensures.kept c.requires.exact c.requires.least
+pub build-requires-clause-tree : goal.build-requires-clause-tree
+build-requires-clause-tree c =
+    let t = has_least c.args.set.now c.args.least.now c.args.root.now c.count.ensures.kept c.requires.exact c.requires.least in
+    (t.0, (t.1, t.2))
 
 pub returns : goal.returns
 returns c =
-    builds c.args.set.now c.args.least.now c.args.root.now c.args.limit c.count.ensures.kept c.build_at.result
-    (has_tree c.args.set.now c.args.least.now c.args.root.now c.args.limit c.count.ensures.kept c.requires.exact c.requires.least) c.build_at.ensures
+    let t = has_least c.args.set.now c.args.least.now c.args.root.now c.count.ensures.kept c.requires.exact c.requires.least in
+    builds c.args.set.now c.args.least.now c.args.root.now c.args.limit c.build.result t.0 t.1 (c.build.ensures t.0 (t.1, t.2))

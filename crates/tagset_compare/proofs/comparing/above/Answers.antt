@@ -11,6 +11,8 @@ unreachable-requires c =
 
 pub returns : goal.returns
 returns c =
-    let P : BrokenDecl → Type 0 = λ b. IsFirstBroken c.args.first.now c.args.second.now c.args.tables.root b.element b.cause in
-    ((c.requires.exact, c.requires.over), subst P (sym c.in_ok-broken-in-Some.ensures)
-    (first_is_broken c.args.first.now c.args.second.now c.args.tables.root c.in-Ok.report.differs c.in-Some.broken.now c.in-Ok.ensures.differs (sym c.in-Some.ensures.value)))
+    let P : BrokenDecl → Type 0 = λ b. IsFirstBroken c.args.first.now c.args.second.now c.args.tables.root b.element b.cause in (
+      (c.requires.exact, c.requires.over),
+      subst P (sym c.in_ok-broken-in-Some.ensures)
+          (first_is_broken c.args.first.now c.args.second.now c.args.tables.root c.in-Ok.report.differs c.in-Some.broken.now c.in-Ok.ensures.differs (sym c.in-Some.ensures.value)),
+    )
