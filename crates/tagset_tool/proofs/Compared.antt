@@ -9,11 +9,12 @@ use Rattle.decl_set.specs.Asked.{IsKept}
 use Rattle.decl_set.specs.Declarations.{Declarations, content_in}
 use Rattle.module_reader.specs.Sources.{Files}
 use Rattle.tagset_compare.specs.Compared.{Compares}
-use Rattle.tagset_compare.specs.Verdicts.{SaysOf, VerdictIsTrue}
+use Rattle.tagset_compare.specs.Verdicts.{SaysOf}
 use Rattle.tagset_compare.specs.declared.fault.CompareFault.{CompareFault}
 use Rattle.tagset_compare.specs.declared.fault.CompareFault.TheVariants.{RootUndeclared, PairsOver, TextOver, NoMemory}
 use Rattle.tagset_compare.specs.declared.outcome.Verdict.{Verdict}
 use Rattle.tagset_compare.specs.declared.outcome.Verdict.TheVariants.{Subset, Not, Over}
+use Rattle.tagset_compare.proofs.Telling.{verdict_is_true}
 use Rattle.tagset_tool.specs.Law.{FewPairs, IsCompared, IsTooLong, SaysSubset}
 use Rattle.tagset_tool.specs.Outcomes.{after, fitting, fitting_by, most_written}
 use Rattle.tagset_tool.specs.Output.{IsOutput, outcome_of}
@@ -106,14 +107,14 @@ says_subset first second root cap status bytes (Over broken tables) says is said
 }
 
 -- what the first line says of an output that is not too long
-pub compared_says : VerdictIsTrue → (words : List (List ℕ)) (files : Files) (first second : Declarations) (root : List ℕ) (cap status : ℕ) (bytes : List ℕ)
+pub compared_says : (words : List (List ℕ)) (files : Files) (first second : Declarations) (root : List ℕ) (cap status : ℕ) (bytes : List ℕ)
     → IsCompared words files first second root cap → IsOutput words files status bytes → IsTooLong status bytes ⊎ SaysSubset first second root status bytes
-compared_says verdict_true words files first second root cap status bytes compared output =
+compared_says words files first second root cap status bytes compared output =
     by (told_by first second root cap status bytes compared.declared compared.few (compared_output words files first second root cap compared status bytes output))
   where
     by : IsTooLong status bytes ⊎ Told first second root cap status bytes → IsTooLong status bytes ⊎ SaysSubset first second root status bytes
     by (inl long) = inl long
     by (inr told) =
         inr (says_subset first second root cap status bytes told.verdict
-        (verdict_true first second root cap most_written told.verdict (first_kept words files first second root cap compared) (second_kept words files first second root cap compared) told.compares)
+        (verdict_is_true first second root cap most_written told.verdict (first_kept words files first second root cap compared) (second_kept words files first second root cap compared) told.compares)
         told.status_is told.bytes_are)

@@ -31,9 +31,10 @@ use Rattle.article_tree.proofs.WrittenBack.{read_back}
 use Rattle.module_reader.specs.Sources.{Files, file_text, text_held, decoded_by}
 use Rattle.module_reader.specs.Stops.{refusal}
 use Rattle.tagset_compare.specs.Compared.{Compares}
-use Rattle.tagset_compare.specs.Verdicts.{SaysOf, VerdictIsTrue, bound_in, tables_in}
+use Rattle.tagset_compare.specs.Verdicts.{SaysOf, bound_in, tables_in}
 use Rattle.tagset_compare.specs.declared.outcome.Verdict.{Verdict}
 use Rattle.tagset_compare.specs.declared.outcome.Verdict.TheVariants.{Subset, Not, Over}
+use Rattle.tagset_compare.proofs.Telling.{verdict_is_true}
 use Rattle.dtd_flattener.proofs.Encoded.{text_read}
 use Rattle.dtd_flattener.proofs.TextChars.{is_text_char}
 use Rattle.tagset_tool.specs.Headline.{Certifies, Headline, HeadlineLaw, IsReadBack, IsVerified, SaysAbove, SaysAll, ShowsArticle}
@@ -111,7 +112,7 @@ verified first second bytes tables bound c read short words files name one other
 
 -- ---- the verdict
 
-module _ (verdict_true : VerdictIsTrue) (first second : Declarations) (root : List ℕ) (cap : ℕ) (kf : IsKept first) (ks : IsKept second) where
+module _ (first second : Declarations) (root : List ℕ) (cap : ℕ) (kf : IsKept first) (ks : IsKept second) where
   exact_of : (v : Verdict) → Compares first second root cap most_written (Ok v) → AreExactTables first second root cap (tables_in v)
   exact_of (Subset tables) is = is.0
   exact_of (Not article broken tables) is = is.0.0
@@ -178,7 +179,7 @@ module _ (verdict_true : VerdictIsTrue) (first second : Declarations) (root : Li
   unfolding certified_by
   headline_told status bytes told =
       let v = told.verdict in
-      let says = verdict_true first second root cap most_written v kf ks told.compares in
+      let says = verdict_is_true first second root cap most_written v kf ks told.compares in
       let plain = plain_of v told.compares says (small_cap v (exact_of v told.compares)) in
       let cert = certified_by v bytes told.compares plain told.bytes_are in
       headline_by v status bytes told.compares says cert
@@ -195,7 +196,7 @@ module _ (verdict_true : VerdictIsTrue) (first second : Declarations) (root : Li
   headline_of status bytes (inl long) = too_long status bytes long
   headline_of status bytes (inr told) = headline_told status bytes told
 
-pub headline : VerdictIsTrue → HeadlineLaw
-headline verdict_true words files first second root cap status bytes compared output =
-    headline_of verdict_true first second root cap (first_kept words files first second root cap compared) (second_kept words files first second root cap compared) status bytes
+pub headline : HeadlineLaw
+headline words files first second root cap status bytes compared output =
+    headline_of first second root cap (first_kept words files first second root cap compared) (second_kept words files first second root cap compared) status bytes
     (told_by first second root cap status bytes compared.declared compared.few (compared_output words files first second root cap compared status bytes output))

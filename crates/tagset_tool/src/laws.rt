@@ -3,15 +3,11 @@
 ghost use Rattle.tagset_tool.specs.Headline.{HeadlineLaw};
 ghost use Rattle.tagset_tool.specs.Law.{OutputLaw, SubsetLaw};
 
-use tagset_compare::verdict_law;
-
 /// Where both sets are read, the first declares the root and the output is not too long, status 0 says that no document
 /// separates, and status 1 that one does.
 pub fn subset_law()
     ensures { SubsetLaw }
-{
-    verdict_law();
-}
+{}
 
 /// What an output of `compare` says of all documents, line by line: that no document separates; or an article that does, with
 /// as few elements as can be and no more than the cap, and what is written of it is read back; or that there are such
@@ -19,9 +15,7 @@ pub fn subset_law()
 /// what is said, and `verify` of a file with these bytes says so.
 pub fn headline_law()
     ensures { HeadlineLaw }
-{
-    verdict_law();
-}
+{}
 
 /// Words and files have one output.
 pub fn output_law()
