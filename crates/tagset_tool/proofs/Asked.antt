@@ -1,5 +1,5 @@
 -- What words ask for.
-use Rattle.std.proofs.Common.{◌≡◌, ◌∙◌, ◌==◌, ◌&&◌, ℕ, ◌<◌, true, List, [], get_or, Some, None, Ok, Err, IfOk, IfSome, ap, refl, sym, subst, length, bytes_eq, codes}
+use Rattle.std.proofs.Common.{◌≡◌, ◌∙◌, ◌==◌, ◌&&◌, ℕ, ◌<◌, true, List, [], get_or, Some, None, Ok, Err, IfOk, IfSome, sym, subst, length, bytes_eq, codes}
 use Rattle.std.specs.Prelude.{Option, Result, is_some}
 use Rattle.std.proofs.lemmas.List.{get_or_default}
 use Rattle.std.proofs.lemmas.Bool.{and_parts, eqb-true}
@@ -17,7 +17,7 @@ use Rattle.tagset_tool.specs.declared.answer.Stop.{Stop}
 use Rattle.tagset_tool.specs.declared.answer.Stop.TheVariants as stop
 use Rattle.tagset_tool.specs.Outcomes.{Outcome, after}
 use Rattle.tagset_tool.specs.Runs.{StopsAs}
-use Rattle.tagset_tool.specs.Words.{SetWords, word, both_by, set_by, cap_in, is_compare, is_fill, is_least, is_report, is_validate, is_verify}
+use Rattle.tagset_tool.specs.Words.{word, cap_in, is_compare, is_fill, is_least, is_report, is_validate, is_verify}
 
 -- what a place of the words has
 pub word_at : (words : List (List ℕ)) (i : ℕ) (x : List ℕ) → i < length words → x ≡ get_or words i x → x ≡ word words i

@@ -16,7 +16,7 @@ use Rattle.tagset_compare.specs.declared.outcome.Verdict.{Verdict}
 use Rattle.tagset_compare.specs.declared.outcome.Verdict.TheVariants.{Subset, Not, Over}
 use Rattle.tagset_compare.proofs.Telling.{verdict_is_true}
 use Rattle.tagset_tool.specs.Law.{FewPairs, IsCompared, IsTooLong, SaysSubset}
-use Rattle.tagset_tool.specs.Outcomes.{after, fitting, fitting_by, most_written}
+use Rattle.tagset_tool.specs.Outcomes.{after, fitting_by, most_written}
 use Rattle.tagset_tool.specs.Output.{IsOutput, outcome_of}
 use Rattle.tagset_tool.specs.Words.{Asked, SetWords, both_by, set_by}
 use Rattle.tagset_tool.specs.commands.Compare.{answers, over_sets, subset_line, verdict_lines, verdict_status}

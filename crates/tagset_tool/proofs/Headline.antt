@@ -1,10 +1,9 @@
 -- What an output of `compare` says, and how it is certified.
-use Rattle.std.proofs.Common.{◌≡◌, ◌∙◌, ◌<◌, ◌≤◌, ◌^◌, ◌+◌, ◌⊎◌, ℕ, Bool, true, false, cond, List, [], ◌∷◌, ◌++◌, Some, None, Ok, Err, inl, inr, refl, sym, ap, subst, append_assoc, arith, length, nat_eq, nat_lt, true≢false}
+use Rattle.std.proofs.Common.{◌≡◌, ◌∙◌, ◌≤◌, ◌+◌, ◌⊎◌, ℕ, true, false, cond, List, [], ◌∷◌, ◌++◌, Some, Ok, Err, inl, inr, refl, sym, ap, subst, append_assoc, arith, length, nat_eq, nat_lt, true≢false}
 use Rattle.std.specs.Prelude.{Option, Result, encode_utf8_all}
 use Rattle.std.specs.Char.{encode_utf8}
-use Rattle.std.specs.List.{AllByRecursion, flat_map, list_all}
+use Rattle.std.specs.List.{flat_map, list_all}
 use Rattle.std.proofs.lemmas.Bool.{and_parts, false_from_ne_true, eqb-true}
-use Rattle.dtd_scanner.specs.Walk.{◌>>=◌}
 use Rattle.jats_fault.specs.declared.fault.Fault.{Fault}
 use Rattle.jats_fault.specs.declared.numbers.TheConstants as number
 use Rattle.jats_chars.specs.Classes.{is_name_char, is_name_start}
@@ -12,17 +11,15 @@ use Rattle.jats_chars.specs.Decoded.{mark_len, text_of, without_declaration}
 use Rattle.jats_chars.specs.Names.{is_name}
 use Rattle.jats_chars.specs.TextDeclaration.{begins_declaration}
 use Rattle.jats_io.specs.Loads.{held}
-use Rattle.document_trees.specs.Trees.{Node, size}
+use Rattle.document_trees.specs.Trees.{Node}
 use Rattle.decl_set.specs.Asked.{IsKept}
-use Rattle.decl_set.specs.Declarations.{Declarations, Entity}
-use Rattle.bound_checker.specs.Certificates.{AreShort, cert_lines, read_lines}
+use Rattle.decl_set.specs.Declarations.{Declarations}
+use Rattle.bound_checker.specs.Certificates.{read_lines}
 use Rattle.bound_checker.specs.Lines.{lines_of}
-use Rattle.bound_checker.specs.Tests.{first_broken}
 use Rattle.bound_checker.specs.declared.check.Broken.{Broken}
 use Rattle.bound_checker.specs.declared.tables.Tables.{Tables}
 use Rattle.bound_checker.proofs.Lined.{lines_pass, text_found}
 use Rattle.tree_costs.specs.declared.cost.Cost.{Cost}
-use Rattle.tree_costs.specs.declared.cost.Cost.TheVariants.{Fin, Inf}
 use Rattle.comparison_tables.specs.Outcome.{AreExactTables}
 use Rattle.comparison_tables.proofs.TheTables.{tables_are_accepted, tables_are_short}
 use Rattle.article_tree.specs.Decoding.{decoded_article}
@@ -37,11 +34,11 @@ use Rattle.tagset_compare.specs.declared.outcome.Verdict.TheVariants.{Subset, No
 use Rattle.tagset_compare.proofs.Telling.{verdict_is_true}
 use Rattle.dtd_flattener.proofs.Encoded.{text_read}
 use Rattle.dtd_flattener.proofs.TextChars.{is_text_char}
-use Rattle.tagset_tool.specs.Headline.{Certifies, Headline, HeadlineLaw, IsReadBack, IsVerified, SaysAbove, SaysAll, ShowsArticle}
-use Rattle.tagset_tool.specs.Law.{IsCompared, IsTooLong}
+use Rattle.tagset_tool.specs.Headline.{Certifies, Headline, HeadlineLaw, IsReadBack, IsVerified}
+use Rattle.tagset_tool.specs.Law.{IsTooLong}
 use Rattle.tagset_tool.specs.Outcomes.{after, most_written}
-use Rattle.tagset_tool.specs.Output.{IsOutput, outcome_of}
-use Rattle.tagset_tool.specs.Words.{Asked, SetWords, asked, both_by, set_by, verify}
+use Rattle.tagset_tool.specs.Output.{outcome_of}
+use Rattle.tagset_tool.specs.Words.{Asked}
 use Rattle.tagset_tool.specs.commands.Compare.{verdict_lines, verdict_status}
 use Rattle.tagset_tool.specs.commands.Verify.{certified, checked, claim, most_certified, verifies_by}
 use Rattle.tagset_tool.proofs.Characters.{article_is_text, text_passed}

@@ -1,7 +1,6 @@
 -- Outputs that are too long, and least articles.
-use Rattle.std.proofs.Common.{◌≡◌, ◌∙◌, ◌<◌, ◌≤◌, ◌+◌, ℕ, true, List, [], ◌∷◌, ◌++◌, length, nat_lt, None, Ok, Err, IfOk, subst, sym, arith, length-append}
-use Rattle.std.specs.Prelude.{Option, Result, codes, encode_utf8_all}
-use Rattle.std.specs.Fmt.{decimal}
+use Rattle.std.proofs.Common.{◌≡◌, ◌<◌, ◌≤◌, ◌+◌, ℕ, true, List, [], ◌∷◌, ◌++◌, length, nat_lt, None, Ok, Err, IfOk, subst, sym, arith, length-append}
+use Rattle.std.specs.Prelude.{Option, Result, encode_utf8_all}
 use Rattle.std.proofs.lemmas.Bool.{lt-ltb}
 use Rattle.document_trees.specs.Trees.{Node}
 use Rattle.content_models.specs.declared.content.Content.{Content}
@@ -10,7 +9,7 @@ use Rattle.tree_costs.specs.declared.least.Least.{Least}
 use Rattle.article_tree.specs.Writing.{write}
 use Rattle.separating_article.specs.Articles.{IsLeastOf, text_size}
 use Rattle.jats_chars.specs.declared.NoMemory.{NoMemory as OutOfMemory}
-use Rattle.tagset_tool.specs.Outcomes.{answering, fitting, fitting_by, most_written, refusing}
+use Rattle.tagset_tool.specs.Outcomes.{fitting, fitting_by, most_written, refusing}
 use Rattle.tagset_tool.specs.Refusals.{output_over, root_undeclared}
 use Rattle.tagset_tool.specs.commands.Least.{least_from, least_in, least_line, least_text, sized}
 use Rattle.tagset_tool.specs.declared.answer.Answer.{Answer}

@@ -1,7 +1,7 @@
 -- Names in lines of what breaks are Names.
-use Rattle.std.proofs.Common.{◌≡◌, ◌∙◌, ℕ, Bool, true, false, cond, List, [], ◌∷◌, Some, None, IsTrue, inl, inr, ◌⊎◌, refl, sym, subst, not, ◌&&◌}
-use Rattle.std.specs.Prelude.{Option, option_map, bytes_eq}
-use Rattle.std.specs.List.{AllByRecursion, list_all}
+use Rattle.std.proofs.Common.{◌≡◌, ℕ, Bool, true, false, cond, List, [], ◌∷◌, Some, None, IsTrue, refl, subst, not, ◌&&◌}
+use Rattle.std.specs.Prelude.{Option, option_map}
+use Rattle.std.specs.List.{AllByRecursion}
 use Rattle.std.specs.Option.{option_or}
 use Rattle.std.proofs.lemmas.Bool.{and_parts}
 use Rattle.jats_chars.specs.Names.{is_name}
@@ -19,14 +19,13 @@ use Rattle.attlist_merge.specs.declared.list.Definition.{Definition}
 use Rattle.attlist_merge.specs.declared.odd.OddAtt.{OddAtt}
 use Rattle.attlist_merge.specs.declared.odd.OddAtt.TheVariants as att
 use Rattle.decl_set.specs.Asked.{IsElement, IsKept}
-use Rattle.decl_set.specs.Breaks.{Breaks, BreaksBy, IsFirstBroken, cause_of, odd_name}
+use Rattle.decl_set.specs.Breaks.{BreaksBy, IsFirstBroken, cause_of, odd_name}
 use Rattle.decl_set.specs.Declarations.{Declarations, Element, attributes_in, content_in}
 use Rattle.decl_set.specs.Oddness.{more_text, odd_by}
 use Rattle.decl_set.specs.Validity.{is_text_allowed}
 use Rattle.decl_set.specs.declared.breaks.BrokenDecl.{BrokenDecl}
 use Rattle.decl_set.specs.declared.breaks.Cause.{Cause}
 use Rattle.decl_set.specs.declared.breaks.Cause.TheVariants as cause
-use Rattle.decl_set.specs.declared.breaks.Odd.{Odd}
 use Rattle.decl_set.specs.declared.breaks.Odd.TheVariants as odd
 use Rattle.decl_set.proofs.Found.{IsDefined, attributes_defined}
 use Rattle.article_validator.specs.Deriving.{is_derived}

@@ -1,5 +1,5 @@
 -- Outputs that are not the line of an absent module.
-use Rattle.std.proofs.Common.{◌≡◌, ◌∙◌, ℕ, lit<, Bool, true, false, ◌&&◌, List, [], ◌∷◌, ◌++◌, Some, None, Ok, Err, inl, inr, refl, sym, ap, subst, take, IsTrue, length, nat_lt, map, arith}
+use Rattle.std.proofs.Common.{◌≡◌, ◌∙◌, ℕ, lit<, Bool, true, false, List, [], ◌∷◌, ◌++◌, Some, None, Ok, Err, refl, sym, ap, subst, take, IsTrue, length, nat_lt, map, arith}
 use Rattle.std.specs.Prelude.{Option, Result, encode_utf8_all, nat_le}
 use Rattle.std.specs.List.{concat, flat_map}
 use Rattle.std.proofs.Math.Utf8.{encode}

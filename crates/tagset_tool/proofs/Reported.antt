@@ -1,5 +1,5 @@
 -- Answers over two sets.
-use Rattle.std.proofs.Common.{◌≡◌, ◌∙◌, ℕ, false, List, Some, None, Ok, Err, IfOk, refl, sym, ap, subst, true≢false}
+use Rattle.std.proofs.Common.{◌≡◌, ◌∙◌, ℕ, false, List, Some, None, Ok, Err, IfOk, refl, sym, ap, true≢false}
 use Rattle.std.specs.Prelude.{Option, Result}
 use Rattle.jats_chars.specs.Names.{is_name}
 use Rattle.jats_chars.specs.declared.NoMemory.{NoMemory as OutOfMemory}

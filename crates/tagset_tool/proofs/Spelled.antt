@@ -1,5 +1,5 @@
 -- The texts of comparisons: lines, a certificate, and what stands behind it.
-use Rattle.std.proofs.Common.{◌≡◌, ◌∙◌, ◌<◌, ◌≤◌, ◌^◌, ℕ, Bool, true, false, List, [], ◌∷◌, ◌++◌, refl, sym, ap, arith, codes, append_assoc, append-nil, IsTrue}
+use Rattle.std.proofs.Common.{◌≡◌, ◌∙◌, ◌<◌, ◌^◌, ℕ, Bool, true, false, List, [], ◌∷◌, ◌++◌, refl, sym, ap, codes, append_assoc, append-nil}
 use Rattle.std.specs.Prelude.{encode_utf8_all}
 use Rattle.std.specs.Char.{encode_utf8}
 use Rattle.std.specs.Fmt.{decimal}
@@ -15,12 +15,9 @@ use Rattle.decl_set.specs.Declarations.{Declarations}
 use Rattle.decl_set.specs.declared.breaks.BrokenDecl.{BrokenDecl}
 use Rattle.decl_set.specs.declared.breaks.Cause.{Cause}
 use Rattle.decl_set.specs.declared.breaks.Cause.TheVariants as cause
-use Rattle.tree_costs.specs.declared.cost.Cost.{Cost}
-use Rattle.tree_costs.specs.declared.cost.Cost.TheVariants.{Fin, Inf}
 use Rattle.bound_checker.specs.Certificates.{IsBeside, cert_lines}
 use Rattle.bound_checker.specs.Lines.{IsInline, joined}
 use Rattle.bound_checker.specs.Tabled.{costs_of}
-use Rattle.bound_checker.specs.declared.tables.Tables.{Tables}
 use Rattle.bound_checker.proofs.Lined.{decimal_passes, inline_passed, is_inline, name_passes}
 use Rattle.article_tree.specs.Writing.{IsWritable, write}
 use Rattle.tagset_compare.specs.Verdicts.{tables_in}

@@ -1,5 +1,5 @@
 -- What an output of `compare` says of all documents, and how it is certified.
-use Rattle.std.specs.Prelude.{◌≡◌, ◌+◌, ◌⊎◌, ℕ, List, ◌++◌, Some, None, Ok, encode_utf8_all}
+use Rattle.std.specs.Prelude.{◌≡◌, ◌+◌, ◌⊎◌, ℕ, List, Some, None, Ok, encode_utf8_all}
 use Rattle.document_trees.specs.Trees.{Node, size}
 use Rattle.decl_set.specs.Breaks.{IsFirstBroken}
 use Rattle.decl_set.specs.Declarations.{Declarations, Entity}

@@ -1,5 +1,5 @@
 -- compare: whether each document of the first set is one of the second, with a certificate.
-use Rattle.std.specs.Prelude.{◌≡◌, ℕ, Bool, true, false, List, [], ◌∷◌, ◌++◌, Result, Ok, Err, codes, encode_utf8_all}
+use Rattle.std.specs.Prelude.{ℕ, Bool, true, false, List, [], ◌∷◌, ◌++◌, Result, Ok, Err, codes, encode_utf8_all}
 use Rattle.document_trees.specs.Trees.{Node, size}
 use Rattle.decl_set.specs.Declarations.{Declarations}
 use Rattle.decl_set.specs.declared.breaks.Cause.{Cause}
