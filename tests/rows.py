@@ -1,4 +1,4 @@
-"""Runs the table of rows on the program: status and output of each, to the byte.
+"""Runs the table of rows on the program: status and output of each, to the byte but where a row says less.
 
 The program is ./tagset at the top of the repository, or what the variable TAGSET names. Words choose the rows whose names
 hold all of them."""
@@ -10,6 +10,7 @@ from concurrent.futures import ThreadPoolExecutor
 from pathlib import Path
 
 from rows import table
+from rows.form import Begun, Certified, certificate_fault, verified
 from rows.program import built_program
 
 SECONDS = 120
@@ -33,21 +34,38 @@ def shown(data):
     return repr(data if len(data) <= 300 else data[:300] + b"...")
 
 
-def failure(program, row):
-    """What is wrong with the row, or None."""
-    words = row.words.split(" ") if isinstance(row.words, str) else row.words
+def answer(program, files, words):
+    """The status and the output of the program beside these files, or None where there is no answer in time."""
+    words = words.split(" ") if isinstance(words, str) else words
     with tempfile.TemporaryDirectory() as folder:
-        write_files(folder, row.files)
+        write_files(folder, files)
         try:
             done = subprocess.run([program, *words], cwd=folder, stdin=subprocess.DEVNULL,
                                   stdout=subprocess.PIPE, stderr=subprocess.PIPE, timeout=SECONDS)
         except subprocess.TimeoutExpired:
-            return f"no answer in {SECONDS} seconds"
+            return None
+    return done.returncode, done.stdout
+
+
+def output_fault(program, row, output):
+    """What is wrong with this output of the row, or None."""
+    if isinstance(row, Begun):
+        return None if output.startswith(as_bytes(row.beginning)) else f"wanted in front {row.beginning!r}"
+    if isinstance(row, Certified):
+        fault = certificate_fault(row, output.decode("utf-8", "replace"))
+        return fault or failure(program, verified(row, output, row.claim))
     wanted = as_bytes(row.output)
-    if done.returncode == row.status and done.stdout == wanted:
-        return None
-    return (f"status {done.returncode}, output {shown(done.stdout)}; "
-            f"wanted status {row.status}, output {shown(wanted)}")
+    return None if output == wanted else f"wanted output {shown(wanted)}"
+
+
+def failure(program, row):
+    """What is wrong with the row, or None."""
+    found = answer(program, row.files, row.words)
+    if found is None:
+        return f"no answer in {SECONDS} seconds"
+    status, output = found
+    wrong = f"wanted status {row.status}" if status != row.status else output_fault(program, row, output)
+    return None if wrong is None else f"status {status}, output {shown(output)}; {wrong}"
 
 
 def repeated(rows):

@@ -1,6 +1,6 @@
 """Comparisons of sets whose contents are character data or nothing, the order of their refusals, and words."""
 
-from .form import Row, compared, counts
+from .form import Row, compared, compared_files, counts, not_compared
 from .modules import CUSTOMISED
 
 A = "<!ELEMENT a EMPTY>"
@@ -96,7 +96,6 @@ WORDS = [
     ("the catalog of the second is not that of the first", "compare - call.dtd good.txt m.dtd a 0", 2,
      "refused E10 ModuleAbsent q.ent 0\n"),
     ("the second set by its catalog", "compare - m.dtd good.txt call.dtd a 0", 2, "refused E20 Malformed d/p.ent 2\n"),
-    ("one entry twice", "compare - m.dtd - m.dtd a 0", 0, SOME),
     ("a root with blanks is written raw", ["compare", "-", "m.dtd", "-", "m.dtd", "a b", "0"], 2,
      "refused E40 RootUndeclared - 0 a b\n"),
     ("a root that is nothing leaves a blank at the end", ["compare", "-", "m.dtd", "-", "m.dtd", "", "0"], 2,
@@ -132,18 +131,19 @@ def customised():
     line = "compare cat.txt custom.dtd - base.dtd {} 0"
     back = "compare - base.dtd cat.txt custom.dtd {} 0"
     return [
-        Row("a customisation against its base", files, line.format("article"), 0, SOME),
-        Row("a base against its customisation", files, back.format("article"), 1, broken("title", "content")),
-        Row("a phrase of a customisation", files, line.format("bold"), 0, SOME),
-        Row("a phrase of a base", files, back.format("bold"), 0, SOME),
-        Row("a customisation with an article of children", CUSTOMISED, line.format("article"), 0, SOME),
-        Row("a base with an article of children", CUSTOMISED, back.format("article"), 1, broken("title", "content")),
+        compared_files("a customisation against its base", files, line.format("article"), 0, SOME),
+        compared_files("a base against its customisation", files, back.format("article"), 1, broken("title", "content")),
+        compared_files("a phrase of a customisation", files, line.format("bold"), 0, SOME),
+        compared_files("a phrase of a base", files, back.format("bold"), 0, SOME),
+        compared_files("a customisation with an article of children", CUSTOMISED, line.format("article"), 0, SOME),
+        compared_files("a base with an article of children", CUSTOMISED, back.format("article"), 1,
+                       broken("title", "content")),
     ]
 
 
 def rows():
     out = [compared("compared: " + name, *rest) for name, *rest in VERDICTS]
-    out += [compared("not compared: " + name, first, second, root, 2, output)
-            for name, first, second, root, output in REFUSED]
+    out += [not_compared("not compared: " + name, *rest) for name, *rest in REFUSED]
     out += [Row("words: " + name, FILES, words, status, output) for name, words, status, output in WORDS]
+    out.append(compared_files("words: one entry twice", FILES, "compare - m.dtd - m.dtd a 0", 0, SOME))
     return out + customised()

@@ -3,6 +3,7 @@
 In the text of a module the sign ¶ marks the place that the refusal names, and is no part of the text.
 In a line @ stands for the module and the place."""
 
+import re
 from typing import NamedTuple
 
 MARK = "¶"
@@ -16,7 +17,53 @@ class Row(NamedTuple):
     files: dict  # from names to texts, bytes, or calls that make them
     words: object  # a line of words, or a list of them
     status: int
-    output: object  # a text or bytes
+    output: object  # a text or bytes, or a call that makes one
+
+
+class Certified(NamedTuple):
+    """A comparison whose output is a head, a certificate and a tail. Verified beside the same files, it makes the claim."""
+    name: str
+    files: dict
+    words: str  # of compare; the last two are the root and the cap
+    status: int
+    head: str
+    claim: str
+    tail: str = ""
+
+
+class Begun(NamedTuple):
+    """An answer of which the first words are fixed."""
+    name: str
+    files: dict
+    words: str
+    status: int
+    beginning: str
+
+
+COST = "(inf|0|[1-9][0-9]*)"
+NUMBER = "(0|[1-9][0-9]*)"
+BETWEEN = re.compile(f"element [^ ]+ {COST} {COST}|state {NUMBER} {COST} {COST}|pair {NUMBER} {NUMBER} {COST}")
+
+
+def certificate_fault(row, text):
+    """What is wrong with the text as the output of a certified row, or None."""
+    *_, root, cap = row.words.split(" ")
+    start = f"{row.head}certificate 1 {root} {cap}\n"
+    if not text.startswith(start):
+        return f"it does not begin with {start!r}"
+    lines, end, rest = text[len(start):].partition("\nend\n")
+    if not end:
+        return "the certificate does not end"
+    strange = [line for line in lines.split("\n") if not BETWEEN.fullmatch(line)]
+    if strange:
+        return f"the certificate has the line {strange[0]!r}"
+    return None if rest == row.tail else f"behind the certificate stands {rest[:300]!r}, wanted {row.tail[:300]!r}"
+
+
+def verified(row, output, claim):
+    """The output of a row of compare, verified beside the same files."""
+    words = ["verify", "c.txt", *row.words.split(" ")[1:5]]
+    return Row(row.name + ", verified", {**row.files, "c.txt": output}, words, 0, claim + "\n")
 
 
 def counts(elements=0, attributes=0, entities=0, notations=0):
@@ -107,6 +154,14 @@ def stands(name, text, *numbers):
     return [flat(name, text, text), counted(name + ", counted", text, *numbers)]
 
 
-def compared(name, first, second, root, status, output):
-    files = {"m.dtd": first, "n.dtd": second}
-    return Row(name, files, f"compare - m.dtd - n.dtd {root} 0", status, output)
+def compared_files(name, files, words, status, head):
+    """A comparison at cap 0."""
+    return Certified(name, files, words, status, head, "certified at least 1" if status else "certified subset")
+
+
+def compared(name, first, second, root, status, head):
+    return compared_files(name, {"m.dtd": first, "n.dtd": second}, f"compare - m.dtd - n.dtd {root} 0", status, head)
+
+
+def not_compared(name, first, second, root, output):
+    return Row(name, {"m.dtd": first, "n.dtd": second}, f"compare - m.dtd - n.dtd {root} 0", 2, output)
