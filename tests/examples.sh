@@ -17,8 +17,28 @@ expect() {
         echo "failed: tagset $*: status $status, output: $got"
     fi
 }
-expect 1 $'not subset\nabove 0\nbroken p content' compare - examples/first.dtd - examples/second.dtd r 0
-expect 0 $'subset\ndocuments some' compare - examples/second.dtd - examples/first.dtd r 0
+# The lines around the certificate of a comparison; the whole output, as a certificate, is verified with this claim.
+folder=$(mktemp -d)
+trap 'rm -rf "$folder"' EXIT
+expect_compared() {
+    local want_status=$1 want=$2 claim=$3 around status
+    shift 3
+    ./tagset compare "$@" > "$folder/output" 2>/dev/null
+    status=$?
+    around=$(sed '/^certificate /,/^end$/d' "$folder/output")
+    if [ "$status" -eq "$want_status" ] && [ "$around" = "$want" ] &&
+        [ "$(./tagset verify "$folder/output" "${@:1:4}")" = "$claim" ]; then
+        passed=$((passed + 1))
+    else
+        failed=$((failed + 1))
+        echo "failed: tagset compare $*: status $status, output: $(cat "$folder/output")"
+    fi
+}
+some=$'subset\ndocuments some'
+expect_compared 1 $'not subset\nabove 0\nbroken p content' 'certified at least 1' - examples/first.dtd - examples/second.dtd r 0
+expect_compared 1 $'not subset\nleast 3\nbroken p content\narticle\n<r><p><xref/></p></r>' 'certified at least 3' \
+    - examples/first.dtd - examples/second.dtd r 100
+expect_compared 0 "$some" 'certified subset' - examples/second.dtd - examples/first.dtd r 100
 expect 2 'refused E40 RootUndeclared - 0 article' compare - examples/first.dtd - examples/second.dtd article 0
 expect 2 'refused E10 ModuleAbsent examples/no.dtd 0' compare - examples/no.dtd - examples/second.dtd r 0
 expect 3 'usage'
@@ -27,11 +47,26 @@ expect 0 $'ok\nelements 26\nattributes 16\nentities 4\nnotations 2' check $house
 expect 0 $'ok\nelements 29\nattributes 16\nentities 4\nnotations 2' check - $house/base.dtd
 expect 0 "$(cat $house/flat.dtd)" flatten $house/catalog.txt $house/house.dtd
 expect 0 "$(cat $house/flat.dtd)" flatten - $house/flat.dtd
-expect 0 $'subset\ndocuments some' compare $house/catalog.txt $house/phrases.dtd - $house/base-phrases.dtd title 0
-expect 1 $'not subset\nabove 0\nbroken title content' compare - $house/base-phrases.dtd $house/catalog.txt $house/phrases.dtd title 0
-expect 1 $'not subset\nabove 0\nbroken front content' compare $house/catalog.txt $house/house.dtd - $house/base.dtd article 0
-expect 1 $'not subset\nabove 0\nbroken front content' compare - $house/base.dtd $house/catalog.txt $house/house.dtd article 0
-expect 0 $'subset\ndocuments some' compare $house/catalog.txt $house/house.dtd - $house/flat.dtd article 0
+expect_compared 0 "$some" 'certified subset' $house/catalog.txt $house/phrases.dtd - $house/base-phrases.dtd title 0
+expect_compared 1 $'not subset\nabove 0\nbroken title content' 'certified at least 1' \
+    - $house/base-phrases.dtd $house/catalog.txt $house/phrases.dtd title 0
+expect_compared 1 $'not subset\nabove 0\nbroken front content' 'certified at least 1' \
+    $house/catalog.txt $house/house.dtd - $house/base.dtd article 0
+expect_compared 1 'not subset
+least 10
+broken front content
+article
+<article><front><journal><journal-id type="issn"/></journal><title/><author><surname/></author><abstract><p/></abstract></front><body/></article>' \
+    'certified at least 10' $house/catalog.txt $house/house.dtd - $house/base.dtd article 100
+expect_compared 1 'not subset
+least 6
+broken article attribute article-type
+article
+<article article-type=""><front><journal><journal-id type="issn"/></journal><title/></front><body/></article>' \
+    'certified at least 6' - $house/base.dtd $house/catalog.txt $house/house.dtd article 100
+expect_compared 1 $'not subset\nabove 5\nbroken front content' 'certified at least 6' \
+    - $house/base.dtd $house/catalog.txt $house/house.dtd article 5
+expect_compared 0 "$some" 'certified subset' $house/catalog.txt $house/house.dtd - $house/flat.dtd article 100
 expect 1 $'differs front content\nuseful 22 differs 1' report $house/catalog.txt $house/house.dtd - $house/base.dtd article
 expect 1 'differs front content
 differs title content
