@@ -1,5 +1,8 @@
 //! The least article of an element that may be empty.
 
+ghost use Rattle.std.specs.Prelude.{◌≡◌};
+ghost use Rattle.tree_costs.specs.Leasts.{m_of};
+
 use crate::{BuildOver, least_article};
 use content_models::Content;
 use decl_set::{DeclFault, DeclSet};
@@ -8,6 +11,7 @@ use jats_chars::{Name, NoMemory, Text};
 use least_trees::least;
 use std::alloc::Global;
 use std::test::Fail;
+use tree_costs::{Cost, Least};
 
 /// The name `e`.
 fn name(alloc: Global) -> Result<Name, NoMemory> {
@@ -20,16 +24,34 @@ fn declare(alloc: Global, set: &mut DeclSet) -> Result<(), DeclFault> {
     set.declare_element(name(alloc)?, Content::Empty)
 }
 
+/// The least size of an element.
+fn size_of(set: &DeclSet, root: &Name, least: &Least) -> Cost
+    ensures { result ≡ m_of set.now least.now root.now }
+{
+    match set.index_of(root) {
+        None => Cost::Inf,
+        Some(place) => match least.rows.get(place) {
+            None => Cost::Inf,
+            Some(row) => row.m,
+        },
+    }
+}
+
 /// What is built of `e` with so many bytes, where it has a least size.
 fn built(alloc: Global, set: &DeclSet, limit: u64) -> Result<Option<Node>, BuildOver> {
     let root = name(alloc)?;
     let least = least(alloc, set, 10)?;
-    match least_size(set, &root, &least) {
-        None => Ok(None),
-        Some(_) => match least_article(alloc, set, &root, &least, limit) {
-            Err(over) => Err(over),
-            Ok(node) => Ok(Some(node)),
-        },
+    match size_of(set, &root, &least) {
+        Cost::Inf => Ok(None),
+        Cost::Fin(size) => {
+            if size > least.cap {
+                return Ok(None);
+            }
+            match least_article(alloc, set, &root, &least, limit) {
+                Err(over) => Err(over),
+                Ok(node) => Ok(Some(node)),
+            }
+        }
     }
 }
 
