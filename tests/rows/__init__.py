@@ -4,8 +4,7 @@ from . import (articles, attributes, catalogs, comparison, contents, entities, e
                forms, least, limits, modules, report, sections, separating, validity, verify, waiting)
 
 SUBJECTS = (entities, expansion, waiting, sections, modules, catalogs, forms, contents, attributes, faults,
-            limits, flat_texts, comparison, articles, validity, report, least, verify,
-            separating)
+            limits, flat_texts, comparison, articles, validity, report, least, verify, separating)
 
 # These have rows that go to limits of many millions of characters, and take a second or more each.
 SLOW = (expansion, limits, articles, validity, report, least, separating)

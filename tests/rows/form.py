@@ -21,7 +21,7 @@ class Row(NamedTuple):
 
 
 class Certified(NamedTuple):
-    """A comparison whose output is a head, a certificate and a tail. Verified beside the same files, it makes the claim."""
+    """A comparison whose output is a head, a certificate and a tail, and makes the claim where it is verified."""
     name: str
     files: dict
     words: str  # of compare; the last two are the root and the cap

@@ -16,6 +16,11 @@ def has(*definitions):
     return A + "<!ATTLIST a " + " ".join(definitions) + ">"
 
 
+def with_last(declarations, content):
+    """The declarations with another content in the place of the last, which is EMPTY."""
+    return declarations.removesuffix("EMPTY>") + content + ">"
+
+
 # Name, the first set, the second set, the root, the cap, the size, the broken line, the article.
 ODD = [
     ("all text against none", "<!ELEMENT r (#PCDATA)>", "<!ELEMENT r EMPTY>", "r", 5, 1, "r text", "<r>x</r>"),
@@ -62,8 +67,8 @@ ODD = [
      has("j CDATA #REQUIRED", "i CDATA #IMPLIED", "k (x|y) #IMPLIED", "l NMTOKEN #REQUIRED"),
      has("l NMTOKEN #IMPLIED", "k (x) #IMPLIED", "j CDATA #IMPLIED", "i CDATA #IMPLIED"), "a", 5, 1, "a attribute k",
      '<a j="" k="y" l="a"/>'),
-    ("missing: an attribute that the first has not", has("j CDATA #REQUIRED"), has("k CDATA #REQUIRED", "j CDATA #IMPLIED"),
-     "a", 5, 1, "a attribute k", '<a j=""/>'),
+    ("missing: an attribute that the first has not", has("j CDATA #REQUIRED"),
+     has("k CDATA #REQUIRED", "j CDATA #IMPLIED"), "a", 5, 1, "a attribute k", '<a j=""/>'),
     ("missing: an attribute that the first allows", has("k CDATA #IMPLIED"), has("k CDATA #REQUIRED"), "a", 5, 1,
      "a attribute k", "<a/>"),
     ("missing: the first of two", A, has("l CDATA #REQUIRED", "k CDATA #REQUIRED"), "a", 5, 1, "a attribute l", "<a/>"),
@@ -84,8 +89,8 @@ NAMES = [
      "<r><a/><b/></r>"),
     ("an order where any was allowed", "<!ELEMENT r (a|b)*>" + ABC, "<!ELEMENT r (a*,b*)>" + ABC, "r", 5, 3,
      "r content", "<r><b/><a/></r>"),
-    ("names behind the step that the second lacks", f"<!ELEMENT r ((b,a,a)|a)>{ABC}", f"<!ELEMENT r (a)>{ABC}", "r", 9, 4,
-     "r content", "<r><b/><a/><a/></r>"),
+    ("names behind the step that the second lacks", f"<!ELEMENT r ((b,a,a)|a)>{ABC}", f"<!ELEMENT r (a)>{ABC}", "r", 9,
+     4, "r content", "<r><b/><a/><a/></r>"),
     ("the least of two ways behind that step", f"<!ELEMENT r (a|(b,(x|c)))><!ELEMENT x (a)>{ABC}",
      f"<!ELEMENT r (a)><!ELEMENT x (a)>{ABC}", "r", 9, 3, "r content", "<r><b/><c/></r>"),
     ("the first of two refused names", f"<!ELEMENT r (a|c|b)>{ABC}", f"<!ELEMENT r (a)>{ABC}", "r", 5, 2, "r content",
@@ -96,10 +101,10 @@ NAMES = [
      f"<!ELEMENT r (a|x)><!ELEMENT x (b,c)><!ATTLIST x k NMTOKEN #REQUIRED>{ABC}",
      f"<!ELEMENT r (a)><!ELEMENT x (b,c)><!ATTLIST x k NMTOKEN #REQUIRED>{ABC}", "r", 5, 4, "r content",
      '<r><x k="a"><b/><c/></x></r>'),
-    ("a pair that only a name without documents reaches", f"<!ELEMENT r ((x,b)|(a,a,c))><!ELEMENT x (x)>{ABC}",
+    ("a name without documents leads nowhere", f"<!ELEMENT r ((x,b)|(a,a,c))><!ELEMENT x (x)>{ABC}",
      f"<!ELEMENT r (x|(a,a))><!ELEMENT x (x)>{ABC}", "r", 9, 4, "r content", "<r><a/><a/><c/></r>"),
-    ("a name without documents in the second", f"<!ELEMENT r (a|b)>{ABC}", f"<!ELEMENT r (a|b)>{A}<!ELEMENT b (b)>", "r", 5,
-     2, "b content", "<r><b/></r>"),
+    ("a name without documents in the second", f"<!ELEMENT r (a|b)>{ABC}", f"<!ELEMENT r (a|b)>{A}<!ELEMENT b (b)>",
+     "r", 5, 2, "b content", "<r><b/></r>"),
     ("stop or go on: stop", "<!ELEMENT r (a*)>" + A, "<!ELEMENT r (a,a)>" + A, "r", 5, 1, "r content", "<r/>"),
 ]
 
@@ -132,8 +137,8 @@ INSIDE = [
 ]
 
 TIES = [
-    ("odd before refused names", f"<!ELEMENT r (a|b)><!ATTLIST r k CDATA #IMPLIED>{ABC}", f"<!ELEMENT r (a)>{ABC}", "r", 9,
-     2, "r attribute k", '<r k=""><a/></r>'),
+    ("odd before refused names", f"<!ELEMENT r (a|b)><!ATTLIST r k CDATA #IMPLIED>{ABC}", f"<!ELEMENT r (a)>{ABC}", "r",
+     9, 2, "r attribute k", '<r k=""><a/></r>'),
     ("odd before a child", f"<!ELEMENT r (a)><!ATTLIST r k CDATA #IMPLIED>{TEXT}", BELOW, "r", 9, 2, "r attribute k",
      '<r k=""><a/></r>'),
     ("refused names before a child", f"<!ELEMENT r (a|b)>{TEXT}{B}", f"<!ELEMENT r (b)>{ABC}", "r", 9, 2, "r content",
@@ -148,8 +153,8 @@ TIES = [
 MIXED = [
     ("ANY against some names", "<!ELEMENT r ANY>" + ABC, "<!ELEMENT r (#PCDATA|r|a)*>" + ABC, "r", 5, 2, "r content",
      "<r><b/></r>"),
-    ("ANY in order of declaration", f"<!ELEMENT b EMPTY><!ELEMENT r ANY>{A}", f"<!ELEMENT b EMPTY><!ELEMENT r (#PCDATA)>{A}",
-     "r", 5, 2, "r content", "<r><b/></r>"),
+    ("ANY in order of declaration", f"{B}<!ELEMENT r ANY>{A}", f"{B}<!ELEMENT r (#PCDATA)>{A}", "r", 5, 2, "r content",
+     "<r><b/></r>"),
     ("ANY against ANY, a child", "<!ELEMENT r ANY>" + TEXT, "<!ELEMENT r ANY>" + A, "r", 5, 2, "a text",
      "<r><a>x</a></r>"),
     ("ANY against ANY, an undeclared child", "<!ELEMENT r ANY>" + A, "<!ELEMENT r ANY>", "r", 5, 2, "a undeclared",
@@ -167,7 +172,7 @@ MIXED = [
 
 ONE_MORE = "<!ELEMENT r (p,p,p?)>" + P
 TWO = "<!ELEMENT r (p,p)>" + P
-FAR = "<!ELEMENT z (b)>" + A + B + "<!ELEMENT r (a?,z?)>"
+FAR = B + "<!ELEMENT z (b)><!ELEMENT r (a?,z?)>" + A
 NEAR = "<!ELEMENT z (b?)><!ELEMENT r (z?)>" + A
 
 BROKEN = [
@@ -186,22 +191,22 @@ ABOVE = [
     ("above the cap it is the first in order of declaration", FAR, NEAR, "r", 1, "b undeclared"),
     ("above the cap, a useless element does not count", f"<!ELEMENT x (#PCDATA)>{ONE_MORE}", f"<!ELEMENT x EMPTY>{TWO}",
      "r", 3, "r content"),
-    ("above the cap, an element of the smallest article does not come first", f"<!ELEMENT a (b?)>{B}<!ELEMENT r (a,a,a)>",
-     f"<!ELEMENT a (b?)><!ELEMENT r (a,a,a)>", "r", 4, "b undeclared"),
-    ("a chain of doublings", doublings(20)[:-len("EMPTY>")] + "(#PCDATA)>", doublings(20), "e0", 1000, "e20 text"),
-    ("a chain of doublings at the highest cap", doublings(20)[:-len("EMPTY>")] + "(#PCDATA)>", doublings(20), "e0", 100000,
+    ("above the cap, an element far down", f"<!ELEMENT a (b?)>{B}<!ELEMENT r (a,a,a)>",
+     "<!ELEMENT a (b?)><!ELEMENT r (a,a,a)>", "r", 4, "b undeclared"),
+    ("a chain of doublings", with_last(doublings(20), "(#PCDATA)"), doublings(20), "e0", 1000, "e20 text"),
+    ("a chain of doublings at the highest cap", with_last(doublings(20), "(#PCDATA)"), doublings(20), "e0", 100000,
      "e20 text"),
 ]
 
 # Name, the first set, the second set, the root, the cap, some or none.
 WITHIN = [
-    ("a list of one against a fixed token", has("k (x) #IMPLIED"), has("k NMTOKEN #FIXED 'x'"), "a", 5, "some"),
-    ("a fixed text against a fixed token", has("k CDATA #FIXED 'v'"), has("k NMTOKEN #FIXED 'v'"), "a", 5, "some"),
+    ("covered: a list of one by a fixed token", has("k (x) #IMPLIED"), has("k NMTOKEN #FIXED 'x'"), "a", 5, "some"),
+    ("covered: a fixed text by a fixed token", has("k CDATA #FIXED 'v'"), has("k NMTOKEN #FIXED 'v'"), "a", 5, "some"),
     ("no text against all", "<!ELEMENT r EMPTY>", "<!ELEMENT r (#PCDATA)>", "r", 100000, "some"),
     ("mixed against ANY", "<!ELEMENT r (#PCDATA|a)*>" + A, "<!ELEMENT r ANY>" + A, "r", 100000, "some"),
-    ("no document, and undeclared", "<!ELEMENT a (a)>", "", "a", 100000, "none"),
+    ("no document, undeclared, at the highest cap", "<!ELEMENT a (a)>", "", "a", 100000, "none"),
     ("a root whose child is undeclared in the first", "<!ELEMENT r (q)>", "<!ELEMENT r EMPTY>", "r", 5, "none"),
-    ("a chain of doublings", doublings(20), doublings(20), "e0", 5, "some"),
+    ("a chain of doublings against itself", doublings(20), doublings(20), "e0", 5, "some"),
 ]
 
 
@@ -236,6 +241,8 @@ def within(name, first, second, root, cap, documents):
     return Certified(name, sets(first, second), words(root, cap), 0, f"subset\ndocuments {documents}\n",
                      "certified subset")
 
+
+SECOND_PLACE = "a child in the second place, to the byte"
 
 # Name, the first set, the second set, the root, the cap, the status, the output, the claim.
 EXACT = [
@@ -356,8 +363,7 @@ state 0 0 inf
 pair 0 0 inf
 end
 """, "certified subset"),
-    ("a child in the second place", f"<!ELEMENT r (a,b)>{A}<!ELEMENT b (#PCDATA)>", f"<!ELEMENT r (a,b)>{A}{B}", "r", 3, 1,
-     """not subset
+    (SECOND_PLACE, f"<!ELEMENT r (a,b)>{A}<!ELEMENT b (#PCDATA)>", f"<!ELEMENT r (a,b)>{A}{B}", "r", 3, 1, """not subset
 least 3
 broken b text
 certificate 1 r 3
@@ -413,8 +419,8 @@ end
 
 
 def changed(name, old, new, status, output):
-    """Verifies the certificate of a child in the second place with one number changed."""
-    first, second, certificate = next((row[1], row[2], row[6]) for row in EXACT if row[0] == "a child in the second place")
+    """The certificate of a child in the second place, with one number changed, verified."""
+    first, second, certificate = next((row[1], row[2], row[6]) for row in EXACT if row[0] == SECOND_PLACE)
     assert certificate.count(old) == 1
     files = {**sets(first, second), "c.txt": certificate.replace(old, new)}
     return Row(name, files, "verify c.txt - m.dtd - n.dtd", status, output + "\n")
@@ -436,16 +442,15 @@ def nested(names, innermost):
 
 
 def chains():
-    forty = chain(40)[:-len("EMPTY>")]
     names = [f"c{k}" for k in range(40)]
-    # Each element of the chain separates down to the last, and then each once more is least.
-    deep = chain(1024)[:-len("EMPTY>")]
-    all_names = [f"c{k}" for k in range(1024)]
-    article = nested(all_names * 2, "").replace("<c1023></c1023>", "<c1023/>")
+    # Each element of the chain separates, down to the last one; under that stands the whole chain once more, now least.
+    article = nested([f"c{k}" for k in range(1024)] * 2, "").replace("<c1023></c1023>", "<c1023/>")
     return [
-        *apart("a chain of 40", forty + "(#PCDATA)>", chain(40), "c0", 40, 40, "c39 text", nested(names, "x")),
-        above("a chain of 40, the cap one under", forty + "(#PCDATA)>", chain(40), "c0", 39, "c39 text"),
-        *apart("2,048 open elements", deep + "(c0?)>", deep + "(z?)>", "c0", 100000, 2048, "c1023 content", article),
+        *apart("a chain of 40", with_last(chain(40), "(#PCDATA)"), chain(40), "c0", 40, 40, "c39 text",
+               nested(names, "x")),
+        above("a chain of 40, the cap one under", with_last(chain(40), "(#PCDATA)"), chain(40), "c0", 39, "c39 text"),
+        *apart("2,048 open elements", with_last(chain(1024), "(c0?)"), with_last(chain(1024), "(z?)"), "c0", 100000,
+               2048, "c1023 content", article),
     ]
 
 
@@ -458,7 +463,7 @@ def rows():
 
 
 def many_pairs():
-    """1,023 names under a star against 1,024: after n names the contents stand at the n-th of the one and of the other."""
+    """1,023 names under a star against 1,024."""
     lines = ["not subset", "least 1024", "broken x content", "certificate 1 x 2000",
              "element p 1 inf", "state 0 0 inf", "pair 0 0 inf", "element x 1 1024", "state 0 0 inf"]
     lines += [f"state {i} {1023 - i} inf" for i in range(1, 1024)]
