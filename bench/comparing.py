@@ -47,7 +47,7 @@ VARIANTS = (("itself", same), ("one attribute", one_attribute), ("many elements"
 
 def variants(program):
     base = customisation.files(1)
-    root = base["article.xml"].split(" ")[1]
+    root = customisation.names(4)[3]
     for title, change in VARIANTS:
         with tempfile.TemporaryDirectory() as folder:
             customisation.write(folder, base | another(base, change))
