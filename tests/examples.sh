@@ -18,20 +18,20 @@ expect() {
     fi
 }
 # The lines around the certificate of a comparison; the whole output, as a certificate, is verified with this claim.
-folder=$(mktemp -d)
-trap 'rm -rf "$folder"' EXIT
+output=$(mktemp answer-XXXXXX)
+trap 'rm -f "$output"' EXIT
 expect_compared() {
     local want_status=$1 want=$2 claim=$3 around status
     shift 3
-    ./tagset compare "$@" > "$folder/output" 2>/dev/null
+    ./tagset compare "$@" > "$output" 2>/dev/null
     status=$?
-    around=$(sed '/^certificate /,/^end$/d' "$folder/output")
+    around=$(sed '/^certificate /,/^end$/d' "$output")
     if [ "$status" -eq "$want_status" ] && [ "$around" = "$want" ] &&
-        [ "$(./tagset verify "$folder/output" "${@:1:4}")" = "$claim" ]; then
+        [ "$(./tagset verify "$output" "${@:1:4}")" = "$claim" ]; then
         passed=$((passed + 1))
     else
         failed=$((failed + 1))
-        echo "failed: tagset compare $*: status $status, output: $(cat "$folder/output")"
+        echo "failed: tagset compare $*: status $status, output: $(cat "$output")"
     fi
 }
 some=$'subset\ndocuments some'
