@@ -13,7 +13,7 @@ Row = ℕ × List ℕ
 abbrev pub table : List Row
 table =
     (number.MODULE_ABSENT, codes "ModuleAbsent") ∷ (number.MODULE_LONG, codes "ModuleLong") ∷ (number.SET_OVER, codes "SetOver") ∷ (number.NOT_UTF8, codes "NotUtf8") ∷ (number.NOT_CHAR, codes "NotChar") ∷ (number.BAD_TEXT_DECL, codes "BadTextDecl")
-    ∷ (number.ENCODING_OTHER, codes "EncodingOther") ∷ (number.FORM_UNBUILT, codes "FormUnbuilt") ∷ (number.MALFORMED, codes "Malformed") ∷ (number.UNDECLARED_PE, codes "UndeclaredPe") ∷ (number.RECURSIVE_PE, codes "RecursivePe")
+    ∷ (number.ENCODING_OTHER, codes "EncodingOther") ∷ (number.MALFORMED, codes "Malformed") ∷ (number.UNDECLARED_PE, codes "UndeclaredPe") ∷ (number.RECURSIVE_PE, codes "RecursivePe")
     ∷ (number.PE_NESTING, codes "PeNesting") ∷ (number.ENTITY_TOO_DEEP, codes "EntityTooDeep") ∷ (number.EXPANSION_OVER, codes "ExpansionOver") ∷ (number.ENTITY_UNDECLARED, codes "EntityUndeclared") ∷ (number.LESS_THAN_IN_VALUE, codes "LessThanInValue")
     ∷ (number.RECURSIVE_ENTITY, codes "RecursiveEntity") ∷ (number.DUPLICATE_NOTATION, codes "DuplicateNotation") ∷ (number.DUPLICATE_ELEMENT, codes "DuplicateElement") ∷ (number.DUPLICATE_MIXED_NAME, codes "DuplicateMixedName")
     ∷ (number.AMBIGUOUS, codes "Ambiguous") ∷ (number.ID_PRESET, codes "IdPreset") ∷ (number.SECOND_ID, codes "SecondId") ∷ (number.SECOND_NOTATION, codes "SecondNotation") ∷ (number.NOTATION_ON_EMPTY, codes "NotationOnEmpty")

@@ -21,9 +21,6 @@ pub const BAD_TEXT_DECL: u16 = 15;
 /// An encoding other than UTF-8 and US-ASCII (4.3.3).
 pub const ENCODING_OTHER: u16 = 16;
 
-/// A form that is not read yet.
-pub const FORM_UNBUILT: u16 = 19;
-
 /// What stands there has none of the forms that may stand there.
 pub const MALFORMED: u16 = 20;
 

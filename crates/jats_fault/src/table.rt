@@ -8,7 +8,7 @@ ghost use Rattle.jats_fault.specs.Table as spec;
 use crate::numbers;
 
 /// Each refusal's number and name.
-const REFUSALS: [(u16, &'static str); 47] = [
+const REFUSALS: [(u16, &'static str); 46] = [
     (numbers::MODULE_ABSENT, "ModuleAbsent"),
     (numbers::MODULE_LONG, "ModuleLong"),
     (numbers::SET_OVER, "SetOver"),
@@ -16,7 +16,6 @@ const REFUSALS: [(u16, &'static str); 47] = [
     (numbers::NOT_CHAR, "NotChar"),
     (numbers::BAD_TEXT_DECL, "BadTextDecl"),
     (numbers::ENCODING_OTHER, "EncodingOther"),
-    (numbers::FORM_UNBUILT, "FormUnbuilt"),
     (numbers::MALFORMED, "Malformed"),
     (numbers::UNDECLARED_PE, "UndeclaredPe"),
     (numbers::RECURSIVE_PE, "RecursivePe"),

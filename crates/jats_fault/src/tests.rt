@@ -127,12 +127,12 @@ fn lines_of_each_shape(rt: HostRuntime) -> Result<(), Fail> {
 fn names_and_numbers(rt: HostRuntime) {
     for (number, name) in [
         (10, Some("ModuleAbsent")),
-        (19, Some("FormUnbuilt")),
         (46, Some("OutputOver")),
         (69, Some("EntityNesting")),
         (0, None),
         (17, None),
         (18, None),
+        (19, None),
         (47, None),
         (68, None),
         (71, None),
