@@ -1,0 +1,76 @@
+"""Runs each example of the documents, and compares what it prints with what the document shows.
+
+An example is a line that begins with `$ `, indented by four spaces in Markdown, and the lines below it are its output, up to the
+next such line or the end of the block. All examples of a document run in one folder, which has what the repository's top has.
+"""
+
+import os
+import re
+import subprocess
+import sys
+import tempfile
+
+TOP = os.path.dirname(os.path.dirname(os.path.abspath(__file__)))
+DOCUMENTS = ("README.md", "docs/REFUSALS.md", "docs/STUMBLES.md", "docs/RULES.md", "docs/tagset.1")
+ESCAPES = (("\\-", "-"), ("\\(aq", "'"), ("\\(dq", '"'), ("\\e", "\\"))
+
+
+def plain(line):
+    """A line of a manual page as it is shown."""
+    for mark, shown in ESCAPES:
+        line = line.replace(mark, shown)
+    return line
+
+
+def blocks(name, text):
+    """The lines of each block of examples."""
+    if name.endswith(".1"):
+        for block in re.findall(r"^\.EX\n(.*?)^\.EE$", text, re.DOTALL | re.MULTILINE):
+            yield [plain(line) for line in block.splitlines()]
+        return
+    for block in re.findall(r"(?:^    .*\n)+", text, re.MULTILINE):
+        yield [line[4:] for line in block.splitlines()]
+
+
+def examples(name, text):
+    """Each command with its output."""
+    for block in blocks(name, text):
+        command, output = None, []
+        for line in block + ["$ "]:
+            if line.startswith("$ "):
+                if command:
+                    yield command, output
+                command, output = line[2:], []
+            else:
+                output.append(line)
+
+
+def copy_of_top(folder):
+    for name in os.listdir(TOP):
+        if not name.startswith(".git"):
+            os.symlink(os.path.join(TOP, name), os.path.join(folder, name))
+    os.unlink(os.path.join(folder, "examples"))
+    subprocess.run(["cp", "-r", os.path.join(TOP, "examples"), folder], check=True)
+
+
+def main():
+    passed = failed = 0
+    for name in DOCUMENTS:
+        path = os.path.join(TOP, name)
+        if not os.path.exists(path):
+            continue
+        with open(path, encoding="utf-8") as file, tempfile.TemporaryDirectory() as folder:
+            copy_of_top(folder)
+            for command, output in examples(name, file.read()):
+                run = subprocess.run(["bash", "-c", command], cwd=folder, capture_output=True, text=True)
+                if run.stdout.splitlines() == output:
+                    passed += 1
+                else:
+                    failed += 1
+                    print(f"failed: {name}: {command}\n{run.stdout}wanted:\n" + "\n".join(output))
+    print(f"examples of documents: {passed} passed, {failed} failed")
+    return 1 if failed or not passed else 0
+
+
+if __name__ == "__main__":
+    sys.exit(main())
