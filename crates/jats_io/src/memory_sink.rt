@@ -59,6 +59,13 @@ impl MemorySink {
         Ok(())
     }
 
+    /// How many writes were made, up to 2^64 - 1.
+    pub fn calls(&self) -> u64
+        ensures { result ≡ self.now.calls }
+    {
+        self.calls
+    }
+
     /// What was written.
     pub fn bytes(&self) -> &[u8]
         ensures { result.now ≡ self.now.bytes }

@@ -57,6 +57,13 @@ impl MemoryStore {
         self.failing.push(number)?;
         Ok(())
     }
+
+    /// How many loads were made, up to 2^64 - 1.
+    pub fn calls(&self) -> u64
+        ensures { result ≡ self.now.calls }
+    {
+        self.calls
+    }
 }
 
 impl Store for MemoryStore {

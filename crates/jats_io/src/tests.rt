@@ -81,6 +81,7 @@ fn the_listed_loads_fail(rt: HostRuntime) -> Result<(), Fail> {
             };
             loads(&rt, alloc, &mut store, "m", 9, (answer, bytes))?;
         }
+        assert_eq!(rt; store.calls(), 3, "{listed}");
     }
     Ok(())
 }
@@ -102,13 +103,13 @@ fn write_within(sink: &mut SoundSink, bytes: &[u8]) -> Result<(), WriteFault>
 fn sinks_take_what_they_have_room_for(rt: HostRuntime) -> Result<(), Fail> {
     let alloc = rt.alloc();
     let text = b"subset\ndocuments some\n";
-    for (room, most, listed, whole, written) in [
-        (100, 10, 2, false, b"subset\ndoc".as_slice()),
-        (100, 10, 4, true, text),
-        (100, 1, 1, false, b""),
-        (22, 100, 0, true, text),
-        (21, 100, 0, false, b"subset\ndocuments some"),
-        (0, 1, 0, false, b""),
+    for (room, most, listed, calls, whole, written) in [
+        (100, 10, 2, 2, false, b"subset\ndoc".as_slice()),
+        (100, 10, 4, 3, true, text),
+        (100, 1, 1, 1, false, b""),
+        (22, 100, 0, 1, true, text),
+        (21, 100, 0, 2, false, b"subset\ndocuments some"),
+        (0, 1, 0, 1, false, b""),
     ] {
         let mut sink = MemorySink::new(alloc, room, most)?;
         sink.fail_call(listed)?;
@@ -118,6 +119,7 @@ fn sinks_take_what_they_have_room_for(rt: HostRuntime) -> Result<(), Fail> {
             "{room} {most} {listed}"
         );
         assert_eq!(rt; sink.bytes(), written, "{room} {most} {listed}");
+        assert_eq!(rt; sink.calls(), calls, "{room} {most} {listed}");
     }
     for (room, whole, written) in [
         (23, true, text.as_slice()),
