@@ -1,4 +1,5 @@
-"""Runs each example of the documents, and compares what it prints with what the document shows.
+"""Runs each example of the documents, compares what it prints with what the document shows, and looks whether the edits that
+a document names are there.
 
 An example is a line that begins with `$ `, indented by four spaces in Markdown, and the lines below it are its output, up to the
 next such line or the end of the block. All examples of a document run in one folder, which has what the repository's top has.
@@ -45,6 +46,17 @@ def examples(name, text):
                 output.append(line)
 
 
+def edits_named(text):
+    """The edits that the last cells of tables name, each as CRATE/NAME; a name alone is of the crate before it."""
+    for line in text.splitlines():
+        crate = None
+        for name in re.findall("`([a-z0-9_]+(?:/[a-z0-9_]+)?)`", line.rpartition(" | ")[2]) if line.startswith("|") else ():
+            if "/" in name:
+                crate, name = name.split("/")
+            if crate:
+                yield f"{crate}/{name}"
+
+
 def copy_of_top(folder):
     for name in os.listdir(TOP):
         if not name.startswith(".git"):
@@ -68,6 +80,14 @@ def main():
                 else:
                     failed += 1
                     print(f"failed: {name}: {command}\n{run.stdout}wanted:\n" + "\n".join(output))
+    with open(os.path.join(TOP, "docs", "BYTES.md"), encoding="utf-8") as file:
+        for edit in edits_named(file.read()):
+            crate, name = edit.split("/")
+            if os.path.exists(os.path.join(TOP, "crates", crate, "must-fail", name + ".edit")):
+                passed += 1
+            else:
+                failed += 1
+                print(f"failed: docs/BYTES.md: there is no edit {edit}")
     print(f"examples of documents: {passed} passed, {failed} failed")
     return 1 if failed or not passed else 0
 
