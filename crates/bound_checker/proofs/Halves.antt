@@ -117,7 +117,7 @@ none_of [] i j h = refl
 none_of (x ∷ pairs) i j h = ap (λ b. cond b (Some x) (find (is_pair i j) pairs)) (not_pair x i j (h 0 x refl)) ∙ none_of pairs i j (λ k y q. h (suc k) y q)
 
 -- a pair is the first of its states
-first_of : (pairs : List PairRow) (i j k : ℕ) (x : PairRow) → AreAscending pairs → slice_get pairs k ≡ Some x → states_of x ≡ (i, j) → find (is_pair i j) pairs ≡ Some x
+pub first_of : (pairs : List PairRow) (i j k : ℕ) (x : PairRow) → AreAscending pairs → slice_get pairs k ≡ Some x → states_of x ≡ (i, j) → find (is_pair i j) pairs ≡ Some x
 first_of [] i j k x a q e = cc
 first_of (y ∷ pairs) i j zero x a q e =
     let same : y ≡ x = cc in

@@ -17,3 +17,4 @@ pub mod Spelling
 pub mod Glued
 pub mod Numbered
 pub mod Naming
+pub mod ByPlace

@@ -1,17 +1,20 @@
 //! The inequalities of tables.
 
-ghost use Rattle.std.specs.Prelude.{◌≡◌, ◌<◌, ◌++◌, Some, [], ◌∷◌, slice_get, option_and_then};
+ghost use Rattle.std.specs.Prelude.{◌≡◌, ◌<◌, ◌++◌, Some, [], ◌∷◌, slice_get, option_and_then, option_map};
 ghost use Rattle.std.specs.List.{flat_map, range_with_len};
+ghost use Rattle.content_models.specs.Model.{Chars};
 ghost use Rattle.position_automata.specs.Automata.{states as states_in};
 ghost use Rattle.position_automata.specs.Stepping.{step_on};
-ghost use Rattle.decl_set.specs.Declarations.{content_in};
+ghost use Rattle.decl_set.specs.Children.{place_in};
+ghost use Rattle.decl_set.specs.Declarations.{content_in, name_of};
 ghost use Rattle.decl_set.specs.Steps.{steps_in};
 ghost use Rattle.bound_checker.specs.Tabled.{Fits, IsPair, costs_of};
 ghost use Rattle.bound_checker.specs.Tests as spec;
 ghost use Rattle.bound_checker.specs.Tests.{failing, each_at};
 ghost use Rattle.bound_checker.specs.Holding.{IsHeld, costs_in};
 
-use crate::held::{Held, m_in, row_on, v_in};
+use crate::held::{Held, m_in, row_at, v_in};
+use crate::near::next_near;
 use crate::{PairRow, Tables};
 use decl_set::{DeclSet, is_odd};
 use jats_chars::Name;
@@ -49,12 +52,12 @@ fn tested_where(wanted: bool, test: Broken) -> Option<Broken>
     if wanted { tested(test) } else { None }
 }
 
-/// Kinds 2 to 4 at a step.
-fn on_step(held: &Held, state: u32, step: usize, on: &Name, to: u32) -> Option<Broken>
+/// Kinds 2 to 4 at a step, by the place of its element.
+fn on_step(held: &Held, state: u32, step: usize, child: Option<usize>, to: u32) -> Option<Broken>
     requires { IsHeld held.now }
-    ensures { result ≡ failing (spec.on_step held.now.first.now held.now.second.now held.now.tables.now.cap (costs_in held.now) held.now.place held.now.name.now state step (on.now, to)) }
+    ensures { (name : Chars) → place_in held.now.first.now.elements name ≡ child → result ≡ failing (spec.on_step held.now.first.now held.now.second.now held.now.tables.now.cap (costs_in held.now) held.now.place held.now.name.now state step (name, to)) }
 {
-    let row = row_on(held.first, held.tables, on);
+    let row = row_at(held.tables, child);
     let m = m_in(row);
     let p = held.p(to);
     let second_kind = Broken {
@@ -92,9 +95,9 @@ fn on_steps(held: &Held, state: u32) -> Option<Broken>
     ensures { result ≡ failing (each_at (spec.on_step held.now.first.now held.now.second.now held.now.tables.now.cap (costs_in held.now) held.now.place held.now.name.now state) 0 (steps_in held.now.first.now held.now.automaton.now state)) }
 {
     for step in 0..1024 {
-        match held.first.step_at(held.place, state, step) {
+        match held.first.child_at(held.place, state, step) {
             None => return None,
-            Some((on, to)) => match on_step(held, state, step, on, to) {
+            Some((child, to)) => match on_step(held, state, step, child, to) {
                 Some(broken) => return Some(broken),
                 None => {}
             },
@@ -141,72 +144,94 @@ fn on_states(held: &Held) -> Option<Broken>
     None
 }
 
-/// Kind 6 or 7 at a step.
+/// Kind 6 or 7 at a step, by the place of its element. The pair that follows is first sought at the place among those of the
+/// row, which becomes the one behind it.
 fn on_both(
     held: &Held,
-    pair: (u32, u32),
+    pair: &PairRow,
     step: usize,
-    on: &Name,
+    child: Option<usize>,
     to: u32,
     other: Option<u32>,
+    at: &mut usize,
 ) -> Option<Broken>
-    requires { IsHeld held.now }
-    ensures { result ≡ failing (spec.on_both held.now.first.now held.now.second.now held.now.tables.now.cap (costs_in held.now) held.now.place held.now.name.now pair.0 pair.1 step (on.now, to) other ∷ []) }
+    requires held { IsHeld held.now }
+    requires left { (costs_in held.now).g held.now.name.now pair.now.i pair.now.j ≡ pair.now.g }
+    ensures { (name : Chars) → place_in held.now.first.now.elements name ≡ child → result ≡ failing (spec.on_both held.now.first.now held.now.second.now held.now.tables.now.cap (costs_in held.now) held.now.place held.now.name.now pair.now.i pair.now.j step (name, to) other ∷ []) }
 {
-    let m = m_in(row_on(held.first, held.tables, on));
-    let left = held.g(pair.0, pair.1);
+    let m = m_in(row_at(held.tables, child));
     match other {
-        Some(other) => tested(Broken {
-            kind: 6,
-            element: held.place,
-            i: pair.0,
-            j: pair.1,
-            step,
-            left,
-            right: sum(m, held.g(to, other), held.tables.cap),
-        }),
+        Some(other) => {
+            let (g, next) = held.g_near(to, other, *at);
+            *at = next;
+            tested(Broken {
+                kind: 6,
+                element: held.place,
+                i: pair.i,
+                j: pair.j,
+                step,
+                left: pair.g,
+                right: sum(m, g, held.tables.cap),
+            })
+        }
         None => tested(Broken {
             kind: 7,
             element: held.place,
-            i: pair.0,
-            j: pair.1,
+            i: pair.i,
+            j: pair.j,
             step,
-            left,
+            left: pair.g,
             right: sum(m, held.p(to), held.tables.cap),
         }),
     }
+}
+
+/// Where the last step of a pair ended: the places behind it among the steps of the second, and behind the pair that follows.
+#[derive(Clone, Copy)]
+struct Near {
+    step: usize,
+    pair: usize,
 }
 
 /// The same, with the state of the second that follows on the name.
 fn at_pair_step(
     held: &Held,
     other: &Automaton,
-    pair: (u32, u32),
+    pair: &PairRow,
     step: usize,
     on: &Name,
     to: u32,
+    near: &mut Near,
 ) -> Option<Broken>
     requires held { IsHeld held.now }
-    requires other { pair.1 < states_in other.now }
-    ensures { result ≡ failing (spec.on_both held.now.first.now held.now.second.now held.now.tables.now.cap (costs_in held.now) held.now.place held.now.name.now pair.0 pair.1 step (on.now, to) (step_on other.now pair.1 on.now) ∷ []) }
+    requires other { pair.now.j < states_in other.now }
+    requires left { (costs_in held.now).g held.now.name.now pair.now.i pair.now.j ≡ pair.now.g }
+    requires step { option_map name_of (slice_get (steps_in held.now.first.now held.now.automaton.now pair.now.i) step) ≡ Some on.now }
+    ensures { result ≡ failing (spec.on_both held.now.first.now held.now.second.now held.now.tables.now.cap (costs_in held.now) held.now.place held.now.name.now pair.now.i pair.now.j step (on.now, to) (step_on other.now pair.now.j on.now) ∷ []) }
 {
-    let next = other.step(pair.1, on);
-    on_both(held, pair, step, on, to, next)
+    let (next, behind) = next_near(other, pair.j, on, near.step);
+    near.step = behind;
+    let child = held.child(pair.i, step, on);
+    on_both(held, pair, step, child, to, next, &mut near.pair)
 }
 
 /// Kinds 6 and 7 at the steps of a pair.
-fn on_pair_steps(held: &Held, other: &Automaton, pair: (u32, u32)) -> Option<Broken>
+fn on_pair_steps(held: &Held, other: &Automaton, pair: &PairRow) -> Option<Broken>
     requires held { IsHeld held.now }
-    requires other { pair.1 < states_in other.now }
-    ensures { result ≡ failing (each_at (λ k s. spec.on_both held.now.first.now held.now.second.now held.now.tables.now.cap (costs_in held.now) held.now.place held.now.name.now pair.0 pair.1 k s (step_on other.now pair.1 s.0) ∷ []) 0 (steps_in held.now.first.now held.now.automaton.now pair.0)) }
+    requires other { pair.now.j < states_in other.now }
+    requires left { (costs_in held.now).g held.now.name.now pair.now.i pair.now.j ≡ pair.now.g }
+    ensures { result ≡ failing (each_at (λ k s. spec.on_both held.now.first.now held.now.second.now held.now.tables.now.cap (costs_in held.now) held.now.place held.now.name.now pair.now.i pair.now.j k s (step_on other.now pair.now.j s.0) ∷ []) 0 (steps_in held.now.first.now held.now.automaton.now pair.now.i)) }
 {
+    let mut near = Near { step: 0, pair: 0 };
     for step in 0..1024 {
-        match held.first.step_at(held.place, pair.0, step) {
+        match held.first.step_at(held.place, pair.i, step) {
             None => return None,
-            Some((on, to)) => match at_pair_step(held, other, pair, step, on, to) {
-                Some(broken) => return Some(broken),
-                None => {}
-            },
+            Some((on, to)) => {
+                match at_pair_step(held, other, pair, step, on, to, &mut near) {
+                    Some(broken) => return Some(broken),
+                    None => {}
+                }
+            }
         }
     }
     None
@@ -216,6 +241,7 @@ fn on_pair_steps(held: &Held, other: &Automaton, pair: (u32, u32)) -> Option<Bro
 fn on_pair(held: &Held, other: &Automaton, pair: &PairRow) -> Option<Broken>
     requires held { IsHeld held.now }
     requires pair { IsPair held.now.tables.now.cap held.now.automaton.now (Some other.now) pair.now }
+    requires left { (costs_in held.now).g held.now.name.now pair.now.i pair.now.j ≡ pair.now.g }
     ensures { result ≡ failing (spec.on_pair held.now.first.now held.now.second.now held.now.tables.now.cap (costs_in held.now) held.now.place held.now.name.now held.now.automaton.now other.now pair.now) }
 {
     let wanted = held.automaton.accepts_at(pair.i) && !other.accepts_at(pair.j);
@@ -227,13 +253,13 @@ fn on_pair(held: &Held, other: &Automaton, pair: &PairRow) -> Option<Broken>
             i: pair.i,
             j: pair.j,
             step: 0,
-            left: held.g(pair.i, pair.j),
+            left: pair.g,
             right: Cost::Fin(0),
         },
     );
     match ends {
         Some(broken) => Some(broken),
-        None => on_pair_steps(held, other, (pair.i, pair.j)),
+        None => on_pair_steps(held, other, pair),
     }
 }
 

@@ -1,11 +1,11 @@
 //! An element in turn, with its row held.
 
-ghost use Rattle.std.specs.Prelude.{◌≡◌, find, option_map, Some};
+ghost use Rattle.std.specs.Prelude.{◌≡◌, option_and_then, slice_get};
 ghost use Rattle.std.specs.Option.{option_copied, option_map_or};
-ghost use Rattle.bound_checker.specs.Tabled.{AreAscending, is_pair, row_of};
 ghost use Rattle.tree_costs.specs.declared.cost.Cost.TheVariants.{Inf};
 
-use crate::{PairRow, Row, Tables};
+use crate::near::{cost_near, listed_cost};
+use crate::{Row, Tables};
 use decl_set::DeclSet;
 use jats_chars::Name;
 use position_automata::Automaton;
@@ -21,17 +21,6 @@ pub struct Held<'a> {
     pub name: &'a Name,
     pub automaton: &'a Automaton,
     pub row: &'a Row,
-}
-
-/// The cost G of the pair (i, j) among pairs that ascend, or None exactly where it is not listed. It is sought by halves.
-pub fn listed_cost(pairs: &[PairRow], i: u32, j: u32) -> Option<Cost>
-    requires { AreAscending pairs.now }
-    ensures { result ≡ option_map (λ s. s.g) (find (is_pair i j) pairs.now) }
-{
-    match pairs.binary_search_by_key(&(i, j), |pair| (pair.i, pair.j)) {
-        Err(_) => None,
-        Ok(at) => Some(pairs[at].g),
-    }
 }
 
 /// What m says of a name: none where it has no row.
@@ -54,17 +43,21 @@ pub(crate) fn v_in(row: Option<&Row>) -> Cost
     }
 }
 
-/// The row of a name, found by hash.
-pub(crate) fn row_on<'a>(first: &DeclSet, tables: &'a Tables, name: &Name) -> Option<&'a Row>
-    ensures { option_copied result ≡ row_of first.now tables.now name.now }
+/// The row of the element at a place, where there is one.
+pub(crate) fn row_at(tables: &Tables, child: Option<usize>) -> Option<&Row>
+    ensures { option_copied result ≡ option_and_then (slice_get tables.now.rows) child }
 {
-    match first.index_of(name) {
+    match child {
         None => None,
         Some(at) => tables.rows.get(at),
     }
 }
 
 impl Held<'_> {
+    ghost use Rattle.std.specs.Prelude.{Some, option_map};
+    ghost use Rattle.decl_set.specs.Children.{place_in};
+    ghost use Rattle.decl_set.specs.Declarations.{name_of};
+    ghost use Rattle.decl_set.specs.Steps.{steps_in};
     ghost use Rattle.bound_checker.specs.Holding.{IsHeld, costs_in};
 
     /// What P says of a state.
@@ -97,6 +90,29 @@ impl Held<'_> {
         match listed_cost(self.row.pairs.as_slice(), i, j) {
             None => Cost::Fin(0),
             Some(g) => g,
+        }
+    }
+
+    /// The same, where the pair is first sought at a place. The second is the place at which to seek the next one.
+    pub(crate) fn g_near(&self, i: u32, j: u32, at: usize) -> (Cost, usize)
+        requires { IsHeld self.now }
+        ensures { result.0 ≡ (costs_in self.now).g self.now.name.now i j }
+    {
+        match cost_near(self.row.pairs.as_slice(), i, j, at) {
+            (None, next) => (Cost::Fin(0), next),
+            (Some(g), next) => (g, next),
+        }
+    }
+
+    /// The place of the element to which a step leads, or None where it is not declared.
+    pub(crate) fn child(&self, state: u32, step: usize, on: &Name) -> Option<usize>
+        requires held { IsHeld self.now }
+        requires step { option_map name_of (slice_get (steps_in self.now.first.now self.now.automaton.now state) step) ≡ Some on.now }
+        ensures { result ≡ place_in self.now.first.now.elements on.now }
+    {
+        match self.first.child_at(self.place, state, step) {
+            None => None,
+            Some((child, _)) => child,
         }
     }
 

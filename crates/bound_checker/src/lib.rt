@@ -13,6 +13,7 @@ mod entries;
 mod fault;
 mod held;
 mod laws;
+mod near;
 mod printing;
 mod reading;
 mod tables;
@@ -20,8 +21,8 @@ mod words;
 
 pub use check::{Broken, check_tables};
 pub use fault::CertFault;
-pub use held::listed_cost;
 pub use laws::{certificate_law, odd_law, sound_law, tests_law};
+pub use near::listed_cost;
 pub use printing::print_cert;
 pub use reading::read_cert;
 pub use tables::{PairRow, PairRows, Row, Rows, StateRow, StateRows, Tables};

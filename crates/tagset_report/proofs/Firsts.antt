@@ -1,5 +1,5 @@
 -- What is listed first, and what the count of useful elements says.
-use Rattle.std.proofs.Common.{◌≡◌, ◌<◌, ◌↔◌, ℕ, zero, suc, List, [], ◌∷◌, ◌++◌, Bool, true, ◌||◌, refl, sym, subst, inl, inr, arith, bytes_eq}
+use Rattle.std.proofs.Common.{◌≡◌, ◌<◌, ℕ, zero, suc, List, [], ◌∷◌, ◌++◌, Bool, true, ◌||◌, refl, sym, subst, inl, inr, arith, bytes_eq}
 use Rattle.std.specs.List.{AllByRecursion}
 use Rattle.content_models.specs.declared.content.Content.{Content}
 use Rattle.content_models.specs.Model.{Chars}

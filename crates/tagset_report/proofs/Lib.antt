@@ -5,7 +5,6 @@ pub mod Gathering
 pub mod Judging
 pub mod Lively
 pub mod Numbers
-pub mod Oddly
 pub mod Once
 pub mod Reaching
 pub mod Search

@@ -29,9 +29,9 @@ use Rattle.tree_costs.specs.Beside.{Front, put, IsRight}
 use Rattle.tree_costs.specs.Forests.{IsForest}
 use Rattle.tree_costs.proofs.Beside.{each_has_right}
 use Rattle.tree_costs.proofs.Building.{bare_forest, node_with, topped}
-use Rattle.tagset_report.specs.Beside.{IsWrong, TellsOdd}
+use Rattle.bound_checker.specs.Beside.{IsWrong, TellsOdd}
 use Rattle.tagset_report.specs.Laws.{NoneBreaks, SubsetByBreaks}
-use Rattle.tagset_report.proofs.Oddly.{element_tells as odd_tells_all}
+use Rattle.bound_checker.proofs.Oddly.{element_tells as odd_tells_all}
 
 -- ---- documents of the elements of items
 

@@ -1,4 +1,3 @@
-pub mod Beside
 pub mod Chains
 pub mod Finite
 pub mod Firsts

@@ -1,17 +1,10 @@
 //! Laws of the definitions.
 
-ghost use Rattle.tagset_report.specs.Beside.{OddTells};
 ghost use Rattle.tagset_report.specs.Chains.{UsefulByChains};
 ghost use Rattle.tagset_report.specs.Finite.{DocumentsByCosts, EndsByCosts};
 ghost use Rattle.tagset_report.specs.Firsts.{DocumentsByUseful, FirstListed, SeparatedByBreaks};
 ghost use Rattle.tagset_report.specs.Laws.{SubsetByBreaks};
 ghost use Rattle.tagset_report.specs.Reported.{NoneListed, OneBroken, OneReport};
-
-/// Where an element is not odd, items and attributes that suit the first set suit the second; where it is odd, some that
-/// suit the first do not suit the second, whatever child elements stand among them.
-pub fn odd_law()
-    ensures { OddTells }
-{}
 
 /// Every document of the first set is one of the second exactly where no useful element breaks; and useful are the elements
 /// that chains of live children reach from a root that has a document. Round a useful element that breaks there is a

@@ -18,9 +18,10 @@ mod outcome;
 mod reporting;
 mod useful;
 
+pub use bound_checker::odd_law;
 pub use causes::{Judged, judge};
 pub use fault::ReportFault;
-pub use laws::{live_law, odd_law, report_law, subset_law};
+pub use laws::{live_law, report_law, subset_law};
 pub use live::{finite_flags, live_names};
 pub use outcome::{BrokenList, Report};
 pub use reporting::report;

@@ -8,5 +8,5 @@ use Rattle.bound_checker.proofs.check.on_pair_steps.Given as goal
 
 abbrev pub invariant-loop-step : goal.invariant-loop-step
 invariant-loop-step l =
-    IsLeft (λ n s. failing (on_both l.held.first.now l.held.second.now l.held.tables.now.cap (costs_in l.held) l.held.place l.held.name.now l.pair.0 l.pair.1 n s (step_on l.other l.pair.1 s.0) ∷ []))
-    (steps_in l.held.first.now l.held.automaton.now l.pair.0) l.step
+    IsLeft (λ n s. failing (on_both l.held.first.now l.held.second.now l.held.tables.now.cap (costs_in l.held) l.held.place l.held.name.now l.pair.i l.pair.j n s (step_on l.other l.pair.j s.0) ∷ []))
+    (steps_in l.held.first.now l.held.automaton.now l.pair.i) l.step

@@ -5,7 +5,7 @@ use Rattle.tree_costs.specs.declared.cost.Cost.TheVariants.{Fin}
 use Rattle.bound_checker.specs.declared.tables.PairRow.{PairRow}
 use Rattle.bound_checker.specs.Tabled.{states_of}
 use Rattle.bound_checker.proofs.Halves.{by_states, searched, some_found, none_found}
-use Rattle.bound_checker.proofs.held.listed_cost.Goals as goal
+use Rattle.bound_checker.proofs.near.cost_by_halves.Goals as goal
 
 abbrev none_row : PairRow
 none_row = record { i = 0; j = 0; g = Fin 0 }
@@ -21,5 +21,5 @@ pub returns-in-Err : goal.returns-in-Err
 returns-in-Err c =
     let pairs = c.args.pairs.now in
     none_found pairs c.args.i c.args.j
-    (searched states_of pairs (c.args.i, c.args.j) (Err c.in-Err.field-0) (by_states pairs c.requires) c.in-Err.ensures.bound
+    (searched states_of pairs (c.args.i, c.args.j) (Err c.in-Err.at) (by_states pairs c.requires) c.in-Err.ensures.bound
     (c.in-Err.ensures.position states_of (answers_always _ _ _ (λ f a r g called. search rules))))
