@@ -65,11 +65,7 @@ fn default_link<'a>(
     }
 }
 
-pub fn default_link_at<'a>(
-    atts: &'a AttList,
-    specified: &Specified,
-    at: usize,
-) -> Option<Link<'a>>
+pub fn default_link_at<'a>(atts: &'a AttList, specified: &Specified, at: usize) -> Option<Link<'a>>
     ensures { one_or_none (option_map (λ l. spec.link l.0.now l.1.now l.2.now) result) ≡ option_map_or (spec.default_link specified.now) (slice_get atts.now at) [] }
 {
     match atts.get(at) {
