@@ -1,3 +1,5 @@
+pub mod Sized
+pub mod TextSizes
 pub mod Examples
 pub mod Joining
 pub mod Walks

@@ -15,5 +15,6 @@ pub mod Frames
 pub mod Held
 pub mod Outcomes
 pub mod WritingSteps
+pub mod Sizes
 pub mod Works
 pub mod Decoding

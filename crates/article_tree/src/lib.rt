@@ -10,11 +10,12 @@
 //! text is an article of one node at most, and that what is written of a writable node is read back.
 //!
 //! `read_article` gives the node of an article from its bytes, and `write_article` the text of a node, both without
-//! recursion. The parts of reading are calls with the contracts of their definitions: `tokens` gives the token at a place,
+//! recursion; `written_size` tells how long that text is without making it. The parts of reading are calls with the contracts of their definitions: `tokens` gives the token at a place,
 //! lent from the text, `elements` does what tags do, with the values of attributes by `values`, `entities` opens a reference,
 //! `held` keeps what was read, and `stops` makes the refusals. `Works` says what a stack of texts still gives.
 #![tactic(auto)]
 
+mod counted;
 mod elements;
 mod entities;
 mod frames;
@@ -25,6 +26,7 @@ mod outside;
 mod reading;
 mod repeats;
 mod runs;
+mod sizing;
 mod steps;
 mod stops;
 mod taking;
@@ -42,5 +44,6 @@ pub use laws::{
     token_law, writing_law,
 };
 pub use reading::read_article;
+pub use sizing::written_size;
 pub use stops::ArticleFault;
 pub use writing::write_article;

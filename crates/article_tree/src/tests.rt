@@ -1,6 +1,6 @@
-//! A node is written.
+//! A node is written, and its text measured.
 
-use crate::{AttValues, Item, ItemList, Node, write_article};
+use crate::{AttValues, Item, ItemList, Node, write_article, written_size};
 use jats_chars::{Name, NoMemory, Text};
 use std::alloc::Global;
 
@@ -31,6 +31,8 @@ fn a_node_is_written(rt: HostRuntime) -> Result<(), NoMemory> {
     if let Some(node) = node(alloc)? {
         let bytes = write_article(alloc, &node)?;
         assert!(rt; bytes.as_slice() == b"<n k=\"v&#10;\">a&lt;b<!--c--></n>".as_slice());
+        let size = written_size(alloc, &node)?;
+        assert!(rt; size == 32);
     }
     Ok(())
 }

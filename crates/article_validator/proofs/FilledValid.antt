@@ -1,8 +1,7 @@
 -- A document that is valid is so with its defaults.
 use Rattle.std.proofs.Common.{◌≡◌, ◌∙◌, ℕ, Bool, true, false, not, ◌&&◌, ◌||◌, cond, List, [], ◌∷◌, ◌++◌, Some, None, refl, ap, sym, subst, IsTrue, bytes_eq}
 use Rattle.std.specs.Prelude.{Option, is_none}
-use Rattle.std.specs.List.{flat_map, list_all, list_any, AllByRecursion}
-use Rattle.std.specs.Map.{lookup}
+use Rattle.std.specs.List.{flat_map, list_all, AllByRecursion}
 use Rattle.std.proofs.lemmas.Bool.{and_parts, and_from}
 use Rattle.std.proofs.lemmas.Slice.Eq.{bytes_eq-Decides}
 use Rattle.content_models.specs.declared.content.Content.{Content}
@@ -10,16 +9,14 @@ use Rattle.content_models.specs.declared.content.TextKind.{TextKind}
 use Rattle.content_models.specs.declared.content.TextKind.TheVariants.{NoItems, White, All}
 use Rattle.content_models.specs.Kinds.{text_kind}
 use Rattle.content_models.specs.Model.{Chars, Derives}
-use Rattle.document_trees.specs.Trees.{Attribute, Items, nothing, element, chars, comment, pi, Node, has_attribute, child_names, elements_alone, runs_plain, EachBelow}
+use Rattle.document_trees.specs.Trees.{Attribute, Items, nothing, element, chars, comment, pi, has_attribute, child_names, elements_alone, runs_plain, EachBelow}
 use Rattle.attribute_types.specs.declared.types.AttType.{AttType}
 use Rattle.attribute_types.specs.declared.types.AttType.TheVariants as kind
 use Rattle.attribute_types.specs.declared.types.Preset.{Preset}
 use Rattle.attribute_types.specs.declared.types.Preset.TheVariants as preset
-use Rattle.attribute_types.specs.declared.classes.ValueClass.{ValueClass}
 use Rattle.attribute_types.specs.Spacing.{collapsed}
 use Rattle.attribute_types.specs.Classes.{in_class}
 use Rattle.attribute_types.specs.Types.{class_of}
-use Rattle.attlist_merge.specs.declared.list.Definition.{Definition}
 use Rattle.attlist_merge.specs.Lists.{Entry, Definitions, definition_of, value_in, is_required, is_settled, is_outside, are_distinct, IsSound}
 use Rattle.attlist_merge.specs.Lists as lists
 use Rattle.attlist_merge.specs.Values.{is_allowed, is_given, is_right}

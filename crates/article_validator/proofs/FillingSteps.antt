@@ -4,7 +4,7 @@ use Rattle.std.specs.Bool.{OnTrue, OnFalse}
 use Rattle.document_trees.specs.Trees.{Attribute, Items, Node, nothing, element, chars, comment, pi, joined}
 use Rattle.document_trees.specs.Seen.{items_of, put}
 use Rattle.document_trees.specs.declared.nodes.Item.{Item}
-use Rattle.document_trees.specs.declared.nodes.Item.TheVariants.{Element, Chars, Comment, Pi}
+use Rattle.document_trees.specs.declared.nodes.Item.TheVariants.{Element}
 use Rattle.decl_set.specs.Declarations.{Declarations}
 use Rattle.article_validator.specs.Filling.{filled, filled_atts, filled_items}
 use Rattle.article_validator.specs.FillingSteps.{filled_on, put_in, around, steps_in, all_steps, whole, steps, whole_of, steps_of, Fills}

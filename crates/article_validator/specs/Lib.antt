@@ -6,4 +6,5 @@ pub mod First
 pub mod Laws
 pub mod Links
 pub mod Listing
+pub mod Specified
 pub mod Structure

@@ -9,8 +9,9 @@ ghost use Rattle.article_validator.specs.Faults.{invalid};
 ghost use Rattle.article_validator.specs.Listing.{one_or_none};
 ghost use Rattle.article_validator.specs.Structure as spec;
 
-use crate::attributes::{is_given, list_or};
+use crate::attributes::list_or;
 use crate::content::{derives, is_text_allowed};
+use crate::specified::Specified;
 use crate::{Invalid, InvalidCause, InvalidList};
 use attlist_merge::AttList;
 use attribute_types::in_class;
@@ -84,15 +85,15 @@ fn put_specified(
 fn missing_cause(
     alloc: Global,
     atts: &AttList,
-    node: &Node,
+    specified: &Specified,
     at: usize,
 ) -> Result<Option<InvalidCause>, NoMemory>
-    ensures { IfOk result (λ o. one_or_none o ≡ option_map_or (spec.missing_causes node.now.atts) (slice_get atts.now at) []) }
+    ensures { IfOk result (λ o. one_or_none o ≡ option_map_or (spec.missing_causes specified.now) (slice_get atts.now at) []) }
 {
     match atts.get(at) {
         None => Ok(None),
         Some((name, definition)) => {
-            if is_given(node.atts.as_slice(), name, definition) {
+            if specified.is_given(name, definition) {
                 Ok(None)
             } else {
                 Ok(Some(InvalidCause::Missing(name.copy(alloc)?)))
@@ -110,8 +111,9 @@ fn put_missing(
 ) -> Result<(), NoMemory>
     ensures { OnOk result (list.new ≡ list.old ++ map (invalid number node.now.name) (flat_map (spec.missing_causes node.now.atts) atts.now)) }
 {
+    let specified = Specified::new(alloc, node.atts.as_slice())?;
     for at in 0..atts.len() {
-        let cause = missing_cause(alloc, atts, node, at)?;
+        let cause = missing_cause(alloc, atts, &specified, at)?;
         put(alloc, list, number, node, cause)?;
     }
     Ok(())

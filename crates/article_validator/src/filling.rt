@@ -11,8 +11,9 @@ ghost use Rattle.article_validator.specs.Filling as spec;
 ghost use Rattle.article_validator.specs.FillingSteps.{Fills, whole_of};
 ghost use Rattle.article_validator.specs.Listing.{one_or_none};
 
-use crate::attributes::{has_attribute, list_or};
+use crate::attributes::list_or;
 use crate::links::value_of;
+use crate::specified::Specified;
 use attlist_merge::{AttList, Definition};
 use decl_set::DeclSet;
 use document_trees::{AttValues, Item, ItemList, Node};
@@ -56,13 +57,13 @@ fn copied(alloc: Global, atts: &[(Name, Text)]) -> Result<AttValues, NoMemory>
 /// The default or fixed value of an attribute that is not specified.
 fn default_of(
     alloc: Global,
-    atts: &[(Name, Text)],
+    specified: &Specified,
     name: &Name,
     definition: &Definition,
 ) -> Result<Option<(Name, Text)>, NoMemory>
-    ensures { IfOk result (λ o. one_or_none o ≡ spec.default_of atts.now (name.now, definition.now)) }
+    ensures { IfOk result (λ o. one_or_none o ≡ spec.default_of specified.now (name.now, definition.now)) }
 {
-    if has_attribute(atts, name) {
+    if specified.has(name) {
         return Ok(None);
     }
     match value_of(&definition.preset) {
@@ -74,14 +75,14 @@ fn default_of(
 fn default_at(
     alloc: Global,
     list: &AttList,
-    atts: &[(Name, Text)],
+    specified: &Specified,
     at: usize,
 ) -> Result<Option<(Name, Text)>, NoMemory>
-    ensures { IfOk result (λ o. one_or_none o ≡ option_map_or (spec.default_of atts.now) (slice_get list.now at) []) }
+    ensures { IfOk result (λ o. one_or_none o ≡ option_map_or (spec.default_of specified.now) (slice_get list.now at) []) }
 {
     match list.get(at) {
         None => Ok(None),
-        Some((name, definition)) => default_of(alloc, atts, name, definition),
+        Some((name, definition)) => default_of(alloc, specified, name, definition),
     }
 }
 
@@ -103,8 +104,9 @@ fn put_defaults(
 ) -> Result<(), NoMemory>
     ensures { OnOk result (all.new ≡ all.old ++ flat_map (spec.default_of atts.now) list.now) }
 {
+    let specified = Specified::new(alloc, atts)?;
     for at in 0..list.len() {
-        let value = default_at(alloc, list, atts, at)?;
+        let value = default_at(alloc, list, &specified, at)?;
         put_value(all, value)?;
     }
     Ok(())

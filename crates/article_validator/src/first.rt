@@ -8,8 +8,9 @@ ghost use Rattle.decl_set.specs.Declarations.{content_in, attributes_in};
 ghost use Rattle.decl_set.specs.declared.breaks.Cause.TheVariants as cause;
 ghost use Rattle.article_validator.specs.First as spec;
 
-use crate::attributes::{is_allowed, is_given, list_or};
+use crate::attributes::{is_allowed, list_or};
 use crate::content::{derives, is_text_allowed};
+use crate::specified::Specified;
 use attlist_merge::{AttList, Definition};
 use content_models::{Content, text_kind};
 use decl_set::{BrokenDecl, Cause, DeclSet};
@@ -47,13 +48,13 @@ fn first_unallowed(
 
 fn ungiven(
     alloc: Global,
-    atts: &[(Name, Text)],
+    specified: &Specified,
     name: &Name,
     definition: &Definition,
 ) -> Result<Option<Name>, NoMemory>
-    ensures { IfOk result (λ o. o ≡ spec.ungiven atts.now (name.now, definition.now)) }
+    ensures { IfOk result (λ o. o ≡ spec.ungiven specified.now (name.now, definition.now)) }
 {
-    if is_given(atts, name, definition) {
+    if specified.is_given(name, definition) {
         Ok(None)
     } else {
         Ok(Some(name.copy(alloc)?))
@@ -63,14 +64,14 @@ fn ungiven(
 fn ungiven_at(
     alloc: Global,
     list: &AttList,
-    atts: &[(Name, Text)],
+    specified: &Specified,
     at: usize,
 ) -> Result<Option<Name>, NoMemory>
-    ensures { IfOk result (λ o. o ≡ option_and_then (spec.ungiven atts.now) (slice_get list.now at)) }
+    ensures { IfOk result (λ o. o ≡ option_and_then (spec.ungiven specified.now) (slice_get list.now at)) }
 {
     match list.get(at) {
         None => Ok(None),
-        Some((name, definition)) => ungiven(alloc, atts, name, definition),
+        Some((name, definition)) => ungiven(alloc, specified, name, definition),
     }
 }
 
@@ -81,8 +82,9 @@ fn first_ungiven(
 ) -> Result<Option<Name>, NoMemory>
     ensures { IfOk result (λ o. o ≡ first_some (spec.ungiven atts.now) list.now) }
 {
+    let specified = Specified::new(alloc, atts)?;
     for at in 0..list.len() {
-        match ungiven_at(alloc, list, atts, at)? {
+        match ungiven_at(alloc, list, &specified, at)? {
             Some(name) => return Ok(Some(name)),
             None => {}
         }

@@ -21,6 +21,7 @@ mod first;
 mod laws;
 mod link_causes;
 mod links;
+mod specified;
 #[cfg(test)]
 mod tests;
 mod walk;

@@ -11,6 +11,7 @@ ghost use Rattle.article_validator.specs.Listing.{one_or_none, kept_causes};
 use crate::attributes::list_or;
 use crate::causes::put;
 use crate::links::{Link, default_link_at, keep, specified_link};
+use crate::specified::Specified;
 use crate::words::first_word;
 use crate::{InvalidCause, InvalidList};
 use attlist_merge::AttList;
@@ -230,8 +231,9 @@ fn put_defaults(
     ensures causes { OnOk result (list.new ≡ list.old ++ map (invalid number node.now.name) (kept_causes set.now all.now.keys seen.old.keys (flat_map (spec.default_link node.now.atts) atts.now))) }
     ensures kept { OnOk result (seen.new.keys ≡ insert_all bytes_eq seen.old.keys (flat_map spec.ids_of (flat_map (spec.default_link node.now.atts) atts.now))) }
 {
+    let specified = Specified::new(alloc, node.atts.as_slice())?;
     for at in 0..atts.len() {
-        let link = default_link_at(atts, node, at);
+        let link = default_link_at(atts, &specified, at);
         put_some(alloc, list, number, node, set, all, seen, link)?;
     }
     Ok(())

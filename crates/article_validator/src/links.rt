@@ -10,7 +10,8 @@ ghost use Rattle.article_validator.specs.Faults.{invalid};
 ghost use Rattle.article_validator.specs.Links as spec;
 ghost use Rattle.article_validator.specs.Listing.{one_or_none, kept_causes};
 
-use crate::attributes::{has_attribute, list_or};
+use crate::attributes::list_or;
+use crate::specified::Specified;
 use attlist_merge::{AttList, Definition};
 use attribute_types::{AttType, Preset, collapse, in_class};
 use decl_set::DeclSet;
@@ -49,13 +50,13 @@ pub fn value_of(preset: &Preset) -> Option<&Text>
 
 /// The default or fixed value of an attribute that is not specified.
 fn default_link<'a>(
-    specified: &[(Name, Text)],
+    specified: &Specified,
     name: &'a Name,
     definition: &'a Definition,
 ) -> Option<Link<'a>>
     ensures { one_or_none (option_map (λ l. spec.link l.0.now l.1.now l.2.now) result) ≡ spec.default_link specified.now (name.now, definition.now) }
 {
-    if has_attribute(specified, name) {
+    if specified.has(name) {
         return None;
     }
     match value_of(&definition.preset) {
@@ -64,12 +65,12 @@ fn default_link<'a>(
     }
 }
 
-pub fn default_link_at<'a>(atts: &'a AttList, node: &Node, at: usize) -> Option<Link<'a>>
-    ensures { one_or_none (option_map (λ l. spec.link l.0.now l.1.now l.2.now) result) ≡ option_map_or (spec.default_link node.now.atts) (slice_get atts.now at) [] }
+pub fn default_link_at<'a>(atts: &'a AttList, specified: &Specified, at: usize) -> Option<Link<'a>>
+    ensures { one_or_none (option_map (λ l. spec.link l.0.now l.1.now l.2.now) result) ≡ option_map_or (spec.default_link specified.now) (slice_get atts.now at) [] }
 {
     match atts.get(at) {
         None => None,
-        Some((name, definition)) => default_link(node.atts.as_slice(), name, definition),
+        Some((name, definition)) => default_link(specified, name, definition),
     }
 }
 
@@ -117,8 +118,9 @@ fn keep_defaults(
 ) -> Result<(), NoMemory>
     ensures { OnOk result (ids.new.keys ≡ insert_all bytes_eq ids.old.keys (flat_map spec.ids_of (flat_map (spec.default_link node.now.atts) atts.now))) }
 {
+    let specified = Specified::new(alloc, node.atts.as_slice())?;
     for at in 0..atts.len() {
-        keep_link(alloc, ids, default_link_at(atts, node, at))?;
+        keep_link(alloc, ids, default_link_at(atts, &specified, at))?;
     }
     Ok(())
 }

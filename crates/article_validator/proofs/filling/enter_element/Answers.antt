@@ -1,7 +1,4 @@
-use Rattle.std.proofs.Common.{◌≡◌, ◌∷◌, ap, refl, sym}
-use Rattle.document_trees.specs.Trees.{Node, nothing}
-use Rattle.document_trees.specs.declared.nodes.Item.TheVariants.{Element}
-use Rattle.article_validator.specs.Filling.{filled_atts}
+use Rattle.std.proofs.Common.{refl, sym}
 use Rattle.article_validator.specs.FillingSteps.{whole_of, steps_of}
 use Rattle.article_validator.proofs.FillingSteps.{element_put}
 use Rattle.article_validator.proofs.filling.enter_element.Goals as goal

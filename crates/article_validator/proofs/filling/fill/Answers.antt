@@ -1,4 +1,4 @@
-use Rattle.std.proofs.Common.{◌∙◌, refl, sym, ap}
+use Rattle.std.proofs.Common.{◌∙◌, sym}
 use Rattle.article_validator.specs.FillingSteps.{whole_of}
 use Rattle.article_validator.proofs.FillingSteps.{fill_put}
 use Rattle.article_validator.proofs.filling.fill.Goals as goal

@@ -1,4 +1,4 @@
-use Rattle.std.proofs.Common.{◌≡◌, ◌∷◌, refl, sym}
+use Rattle.std.proofs.Common.{refl}
 use Rattle.document_trees.specs.Trees as tree
 use Rattle.document_trees.specs.declared.nodes.Item.TheVariants.{Chars, Comment, Pi}
 use Rattle.article_validator.specs.FillingSteps.{whole_of, steps_of}
