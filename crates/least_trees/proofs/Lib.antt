@@ -3,7 +3,8 @@ pub mod Relax
 pub mod Lowered
 pub mod Turn
 pub mod Loop
-pub mod Chaining
+pub mod Visiting
+pub mod Sorting
 pub mod Origins
 pub mod Exact
 pub mod Rowed

@@ -1,7 +1,7 @@
 pub mod Plans
 pub mod Rules
 pub mod Spots
-pub mod Chains
+pub mod Uses
 pub mod Board
 pub mod Solving
 pub mod Rows

@@ -17,16 +17,16 @@ fn push_step(
     inner: Option<usize>,
     next: u32,
 ) -> Result<(), NoMemory>
-    requires state { first + state < 2 ^ 64 }
-    requires next { first + next < 2 ^ 64 }
-    requires inner { IfSome inner (λ x. count + x < 2 ^ 64) }
+    requires state { first + state < 2 ^ 32 }
+    requires next { first + next < 2 ^ 32 }
+    requires inner { IfSome inner (λ x. count + x < 2 ^ 32) }
     ensures { OnOk result (rules.new.items ≡ rules.old.items ++ step_rules count first state (inner, next)) }
 {
     if let Some(x) = inner {
         rules.push(Rule {
-            target: first + state as usize,
-            left: count + x,
-            right: first + next as usize,
+            target: (first + state as usize) as u32,
+            left: (count + x) as u32,
+            right: (first + next as usize) as u32,
         })?;
     }
     Ok(())
@@ -43,8 +43,8 @@ fn gather_steps<G: StepGraph>(
 ) -> Result<(), NoMemory>
     requires element { e < (G.plan graph.old).count }
     requires state { state < (G.plan graph.old).states e }
-    requires first { first + (G.plan graph.old).states e < 2 ^ 64 }
-    requires count { count + (G.plan graph.old).count < 2 ^ 64 }
+    requires first { first + (G.plan graph.old).states e < 2 ^ 32 }
+    requires count { count + (G.plan graph.old).count < 2 ^ 32 }
     requires room { G.looks graph.old + length ((G.plan graph.old).numbers.steps e state) + 1 < 2 ^ 63 }
     ensures rules { OnOk result (rules.new.items ≡ rules.old.items ++ rules_of_steps count first state ((G.plan graph.old).numbers.steps e state)) }
     ensures same { G.plan graph.new ≡ G.plan graph.old }
@@ -71,8 +71,9 @@ fn gather_state<G: StepGraph>(
     requires element { e < (G.plan graph.old).count }
     requires state { state < (G.plan graph.old).states e }
     requires first { first ≡ base (G.plan graph.old) e }
-    requires small { first + (G.plan graph.old).states e < 2 ^ 64 }
+    requires small { first + (G.plan graph.old).states e < 2 ^ 32 }
     requires count { count ≡ (G.plan graph.old).count }
+    requires few { count + count < 2 ^ 32 }
     requires room { G.looks graph.old + length ((G.plan graph.old).numbers.steps e state) + 1 < 2 ^ 63 }
     ensures rules { OnOk result (rules.new.items ≡ rules.old.items ++ state_rules (G.plan graph.old) e state) }
     ensures same { G.plan graph.new ≡ G.plan graph.old }
@@ -95,8 +96,9 @@ fn gather_states<G: StepGraph>(
 ) -> Result<(), NoMemory>
     requires element { e < (G.plan graph.old).count }
     requires first { first ≡ base (G.plan graph.old) e }
-    requires small { first + (G.plan graph.old).states e < 2 ^ 64 }
+    requires small { first + (G.plan graph.old).states e < 2 ^ 32 }
     requires count { count ≡ (G.plan graph.old).count }
+    requires few { count + count < 2 ^ 32 }
     requires room { G.looks graph.old + steps_within (G.plan graph.old) e ((G.plan graph.old).states e) + (G.plan graph.old).states e < 2 ^ 63 }
     ensures rules { OnOk result (rules.new.items ≡ rules.old.items ++ rules_within (G.plan graph.old) e ((G.plan graph.old).states e)) }
     ensures same { G.plan graph.new ≡ G.plan graph.old }
@@ -126,6 +128,7 @@ pub(crate) fn gather<G: StepGraph>(
 ) -> Result<Vec<Rule>, NoMemory>
     requires firsts { firsts.now ≡ first_spots (G.plan graph.old) (G.plan graph.old).count }
     requires spots { spots ≡ base (G.plan graph.old) (G.plan graph.old).count }
+    requires few { spots < 2 ^ 32 }
     requires room { G.looks graph.old + steps_in (G.plan graph.old) + states_in (G.plan graph.old) < 2 ^ 63 }
     ensures rules { IfOk result (λ v. v.items ≡ all_rules (G.plan graph.old)) }
     ensures same { G.plan graph.new ≡ G.plan graph.old }
@@ -137,9 +140,9 @@ pub(crate) fn gather<G: StepGraph>(
     for e in 0..count {
         let first = first_at(firsts, e);
         rules.push(Rule {
-            target: count + e,
-            left: e,
-            right: first,
+            target: (count + e) as u32,
+            left: e as u32,
+            right: first as u32,
         })?;
         gather_states(graph, e, count, first, &mut rules)?;
     }

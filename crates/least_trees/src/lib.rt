@@ -8,12 +8,11 @@
 //!
 //! Inside, each weight, element and state has a spot with a cost (`spots`), and each step and element a rule that says what its
 //! target costs at most (`gather`, `rules`). A state that accepts costs 0 and has no rules. Each spot is settled once, the one
-//! with the smallest cost first (`solver`): a board of winners tells which is next (`board`), and chains of rules which sums a
-//! settled spot completes (`chains`, `lowering`). Every sum is taken when both of its parts are settled, and never again.
+//! with the smallest cost first (`solver`): a board of winners tells which is next (`board`), and lists of uses which sums a
+//! settled spot completes (`uses`, `lowering`). Every sum is taken when both of its parts are settled, and never again.
 #![tactic(auto)]
 
 mod board;
-mod chains;
 mod decl_graph;
 mod gather;
 mod graph;
@@ -24,6 +23,7 @@ mod set_costs;
 mod settled;
 mod solver;
 mod spots;
+mod uses;
 
 pub use decl_graph::DeclGraph;
 pub use graph::{StepGraph, Worth};

@@ -2,14 +2,14 @@
 
 ghost use Rattle.std.specs.Prelude.{◌≡◌, ◌+◌, ◌-◌, ◌^◌, ◌<◌, ◌≤◌, [], ◌∷◌, length, map};
 ghost use Rattle.least_trees.specs.Board.{IsWhole};
-ghost use Rattle.least_trees.specs.Chains.{Chains, rule_at, visited, all_visited};
+ghost use Rattle.least_trees.specs.Uses.{AreUses, visited, all_visited};
 ghost use Rattle.least_trees.specs.Rules.{InRange, AllIn, relaxed, applied, lower_all};
 ghost use Rattle.least_trees.specs.declared.rules.Part.TheVariants.{Left, Right};
 
 use crate::board::replay;
-use crate::chains::Chain;
 use crate::graph::{StepGraph, Worth};
 use crate::rules::{Part, Rule, rule_applies};
+use crate::uses::Uses;
 
 /// Lowers the cost of the rule's target to the sum of its parts.
 fn relax<G: StepGraph>(
@@ -29,10 +29,11 @@ fn relax<G: StepGraph>(
     ensures looks { G.looks graph.new ≡ G.looks graph.old }
     ensures sums { G.sums graph.new ≡ G.sums graph.old + 1 }
 {
-    let sum = graph.sum(values[rule.left], values[rule.right]);
-    if graph.less(sum, values[rule.target]) {
-        values[rule.target] = sum;
-        replay(graph, done, values, winners, rule.target);
+    let target = rule.target as usize;
+    let sum = graph.sum(values[rule.left as usize], values[rule.right as usize]);
+    if graph.less(sum, values[target]) {
+        values[target] = sum;
+        replay(graph, done, values, winners, target);
     }
 }
 
@@ -60,20 +61,11 @@ fn visit<G: StepGraph>(
     }
 }
 
-/// The rule in front of a place.
-fn rule_before(rules: &[Rule], place: usize) -> Rule
-    requires positive { 0 < place }
-    requires within { place ≤ length rules.now }
-    ensures { result ≡ rule_at rules.now (place - 1) }
-{
-    rules[place - 1]
-}
-
 /// Lowers what the sums with x as this part lower.
 fn lower_along<G: StepGraph>(
     graph: &mut G,
     rules: &[Rule],
-    chain: &Chain,
+    uses: &Uses,
     part: Part,
     done: &[bool],
     x: usize,
@@ -81,7 +73,7 @@ fn lower_along<G: StepGraph>(
     winners: &mut [usize],
 )
     requires range { AllIn (length values.old) rules.now }
-    requires chained { Chains (length values.old) part rules.now chain.now }
+    requires listed { AreUses (length values.old) part rules.now uses.now }
     requires spot { x < length values.old }
     requires lengths { length done.now ≡ length values.old }
     requires board { IsWhole done.now (map G.Value.cost values.old) winners.old }
@@ -92,10 +84,12 @@ fn lower_along<G: StepGraph>(
     ensures looks { G.looks graph.new ≡ G.looks graph.old }
     ensures sums { G.sums graph.new ≡ G.sums graph.old + applied done.now x (visited part rules.now x (length rules.now)) }
 {
-    let mut place = chain.first(x);
-    while place > 0 {
-        visit(graph, rule_before(rules, place), done, x, values, winners);
-        place = chain.after(place);
+    let _ = rules;
+    let mut at = uses.start(x);
+    let end = uses.start(x + 1);
+    while at < end {
+        visit(graph, uses.rule(part, x, at), done, x, values, winners);
+        at += 1;
     }
 }
 
@@ -103,16 +97,16 @@ fn lower_along<G: StepGraph>(
 pub(crate) fn lower<G: StepGraph>(
     graph: &mut G,
     rules: &[Rule],
-    left: &Chain,
-    right: &Chain,
+    left: &Uses,
+    right: &Uses,
     done: &[bool],
     x: usize,
     values: &mut [G::Value],
     winners: &mut [usize],
 )
     requires range { AllIn (length values.old) rules.now }
-    requires left { Chains (length values.old) Left rules.now left.now }
-    requires right { Chains (length values.old) Right rules.now right.now }
+    requires left { AreUses (length values.old) Left rules.now left.now }
+    requires right { AreUses (length values.old) Right rules.now right.now }
     requires spot { x < length values.old }
     requires lengths { length done.now ≡ length values.old }
     requires board { IsWhole done.now (map G.Value.cost values.old) winners.old }

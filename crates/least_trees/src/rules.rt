@@ -6,9 +6,9 @@ ghost use Rattle.least_trees.specs.Rules.{InRange, applies};
 /// A rule: the target costs at most what both parts do together.
 #[derive(Clone, Copy)]
 pub(crate) struct Rule {
-    pub target: usize,
-    pub left: usize,
-    pub right: usize,
+    pub target: u32,
+    pub left: u32,
+    pub right: u32,
 }
 
 /// A part of a rule.
@@ -23,5 +23,6 @@ pub(crate) fn rule_applies(rule: Rule, done: &[bool], x: usize) -> bool
     requires { InRange (length done.now) rule }
     ensures { result ≡ applies done.now x rule }
 {
-    (rule.left == x || rule.right == x) && done[rule.left] && done[rule.right] && !done[rule.target]
+    let (left, right) = (rule.left as usize, rule.right as usize);
+    (left == x || right == x) && done[left] && done[right] && !done[rule.target as usize]
 }

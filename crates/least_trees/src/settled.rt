@@ -5,12 +5,12 @@ ghost use Rattle.least_trees.specs.Plans.{states_in, steps_in};
 ghost use Rattle.least_trees.specs.Rows.{AreExact, IsSettled};
 
 use crate::board::board;
-use crate::chains::link;
 use crate::gather::gather;
 use crate::graph::{StepGraph, Worth};
 use crate::rules::Part;
 use crate::solver::settle;
 use crate::spots::{Spots, lay_out};
+use crate::uses::list_uses;
 use jats_chars::{ListOf, NoMemory};
 use std::alloc::Global;
 
@@ -39,8 +39,8 @@ pub(crate) fn solve<G: StepGraph>(alloc: Global, graph: &mut G) -> Result<Spots<
     let mut spots = lay_out(alloc, graph)?;
     let count = spots.values.len();
     let rules = gather(alloc, graph, spots.firsts.as_slice(), count)?;
-    let left = link(alloc, count, rules.as_slice(), Part::Left)?;
-    let right = link(alloc, count, rules.as_slice(), Part::Right)?;
+    let left = list_uses(alloc, count, rules.as_slice(), Part::Left)?;
+    let right = list_uses(alloc, count, rules.as_slice(), Part::Right)?;
     let mut done = vec![in alloc; false; count]?;
     let mut winners = board(alloc, graph, done.as_slice(), spots.values.as_slice())?;
     settle(

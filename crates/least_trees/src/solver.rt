@@ -2,31 +2,31 @@
 
 ghost use Rattle.std.specs.Prelude.{◌≡◌, ◌+◌, ◌^◌, ◌<◌, ◌≤◌, length, map, slice_set, Some, true};
 ghost use Rattle.least_trees.specs.Board.{IsWhole, IsNext};
-ghost use Rattle.least_trees.specs.Chains.{Chains, all_visited};
+ghost use Rattle.least_trees.specs.Uses.{AreUses, all_visited};
 ghost use Rattle.least_trees.specs.Rules.{AllIn, applied, lower_all};
 ghost use Rattle.least_trees.specs.Solving.{IsLowest, AllSmall, NoneDone};
 ghost use Rattle.least_trees.specs.declared.rules.Part.TheVariants.{Left, Right};
 
 use crate::board::{next, replay};
-use crate::chains::Chain;
 use crate::graph::{StepGraph, Worth};
 use crate::lowering::lower;
 use crate::rules::Rule;
+use crate::uses::Uses;
 
 /// Settles a spot and lowers what it lowers.
 fn settle_one<G: StepGraph>(
     graph: &mut G,
     rules: &[Rule],
-    left: &Chain,
-    right: &Chain,
+    left: &Uses,
+    right: &Uses,
     x: usize,
     done: &mut [bool],
     values: &mut [G::Value],
     winners: &mut [usize],
 )
     requires range { AllIn (length values.old) rules.now }
-    requires left { Chains (length values.old) Left rules.now left.now }
-    requires right { Chains (length values.old) Right rules.now right.now }
+    requires left { AreUses (length values.old) Left rules.now left.now }
+    requires right { AreUses (length values.old) Right rules.now right.now }
     requires lengths { length done.old ≡ length values.old }
     requires spot { x < length done.old }
     requires board { IsWhole done.old (map G.Value.cost values.old) winners.old }
@@ -47,15 +47,15 @@ fn settle_one<G: StepGraph>(
 pub(crate) fn settle<G: StepGraph>(
     graph: &mut G,
     rules: &[Rule],
-    left: &Chain,
-    right: &Chain,
+    left: &Uses,
+    right: &Uses,
     done: &mut [bool],
     values: &mut [G::Value],
     winners: &mut [usize],
 )
     requires range { AllIn (length values.old) rules.now }
-    requires left { Chains (length values.old) Left rules.now left.now }
-    requires right { Chains (length values.old) Right rules.now right.now }
+    requires left { AreUses (length values.old) Left rules.now left.now }
+    requires right { AreUses (length values.old) Right rules.now right.now }
     requires lengths { length done.old ≡ length values.old }
     requires none { NoneDone done.old }
     requires small { AllSmall (G.plan graph.old).numbers.cap (map G.Value.cost values.old) }

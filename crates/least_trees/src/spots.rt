@@ -1,6 +1,6 @@
 //! The spots of a graph, with the costs that they begin with.
 
-ghost use Rattle.std.specs.Prelude.{◌≡◌, ◌+◌, ◌++◌, ◌∷◌, [], ◌<◌, length, map, IfOk, OnOk};
+ghost use Rattle.std.specs.Prelude.{◌≡◌, ◌+◌, ◌++◌, ◌∷◌, [], ◌<◌, ◌^◌, length, map, IfOk, OnOk};
 ghost use Rattle.tree_costs.specs.declared.cost.Cost.TheVariants.{Inf};
 ghost use Rattle.least_trees.specs.Spots.{weight_starts, top_starts, state_starts, element_starts, start_of, first_spots, IsSpots};
 
@@ -81,14 +81,18 @@ fn push_elements<G: StepGraph>(
     Ok(())
 }
 
-/// The spots of a graph.
+/// The spots of a graph. Where their numbers do not fit 32 bits, memory is said to run out.
 pub(crate) fn lay_out<G: StepGraph>(alloc: Global, graph: &G) -> Result<Spots<G::Value>, NoMemory>
-    ensures { IfOk result (λ s. IsSpots (G.plan graph.now) (map G.Value.cost s.values.items) s.firsts.items) }
+    ensures few { IfOk result (λ s. length s.values.items < 2 ^ 32) }
+    ensures spots { IfOk result (λ s. IsSpots (G.plan graph.now) (map G.Value.cost s.values.items) s.firsts.items) }
 {
     let mut values = Vec::new(alloc);
     push_weights(graph, &mut values)?;
     push_tops(graph, &mut values)?;
     let mut firsts = Vec::new(alloc);
     push_elements(graph, &mut values, &mut firsts)?;
+    if values.len() > u32::MAX as usize {
+        return Err(NoMemory);
+    }
     Ok(Spots { values, firsts })
 }

@@ -84,3 +84,10 @@ returns-clause-looks g c =
     let plan = g.G.StepGraph.plan c.args.graph.now in
     let q : c.loop-e.e ≡ plan.count = omega (arith, c.count-count.ensures) in
     omega (arith, ap (steps_below plan) q, ap (states_below plan) q, c.loop-e.invariant.looks)
+
+pub overflow_cast-first : goal.overflow_cast-first
+overflow_cast-first g c =
+    let plan = g.G.StepGraph.plan c.args.graph.now in
+    let lt : c.loop-e.e < plan.count = omega (arith, c.count-count.ensures) in
+    let q : c.first_at-first.result ≡ base plan c.loop-e.e = c.first_at-first.ensures ∙ ap (λ z. slice_index z c.loop-e.e) c.requires.firsts ∙ first_at plan plan.count c.loop-e.e lt in
+    omega (arith, q, below-mono plan c.loop-e.e plan.count lt, c.requires.spots, c.requires.few)

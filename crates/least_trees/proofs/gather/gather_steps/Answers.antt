@@ -27,7 +27,7 @@ push_step-requires-clause-inner g c =
     let P : IsPlan plan = g.met.G.StepGraph.formed c.args.graph.now in
     let h : IsWithin plan c.args.e (c.in-Some.inner, c.in-Some.next) =
     P.within c.args.e c.args.state (c.in-Some.inner, c.in-Some.next) (step_contained steps c.loop-inner.k (c.in-Some.inner, c.in-Some.next) s) in
-    on_fits c.args.count plan.count 18446744073709551616 c.in-Some.inner h.1 c.requires.count
+    on_fits c.args.count plan.count 4294967296 c.in-Some.inner h.1 c.requires.count
 
 pub loop-inner-smaller : goal.loop-inner-smaller
 loop-inner-smaller g c =

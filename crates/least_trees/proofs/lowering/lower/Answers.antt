@@ -1,8 +1,8 @@
 use Rattle.std.proofs.Common.{arith, ◌≡◌, ◌+◌, ◌<◌, length, map, sym, ap, ◌∙◌}
 use Rattle.least_trees.specs.declared.rules.Part.TheVariants.{Left, Right}
 use Rattle.least_trees.specs.Rules.{lower_all}
-use Rattle.least_trees.specs.Chains.{visited}
-use Rattle.least_trees.proofs.Chaining.{lower_all-append, applied-append}
+use Rattle.least_trees.specs.Uses.{visited}
+use Rattle.least_trees.proofs.Visiting.{lower_all-append, applied-append}
 use Rattle.least_trees.proofs.lowering.lower.Goals as goal
 
 pub lower_along-requires-clause-room : goal.lower_along-requires-clause-room

@@ -11,13 +11,13 @@ replay-requires-clause-board g c =
 pub returns-then-less-clause-value : goal.returns-then-less-clause-value
 returns-then-less-clause-value g c =
     relax-less g.G.Value.Worth.cost (g.G.StepGraph.plan c.args.graph.now).numbers.cap c.args.rule c.args.values.now c.requires.range
-    c.index-values-rule.result c.index-values-rule-2.result c.index-values-rule-3.result c.sum-sum.result
-    c.index-values-rule.is c.index-values-rule-2.is c.index-values-rule-3.is c.sum-sum.ensures.value
+    c.index-values-rule.result c.index-values-rule-2.result c.index-values-target.result c.sum-sum.result
+    c.index-values-rule.is c.index-values-rule-2.is c.index-values-target.is c.sum-sum.ensures.value
     (c.if-less.ensures.0 refl)
 
 pub returns-else-less-clause-value : goal.returns-else-less-clause-value
 returns-else-less-clause-value g c =
     relax-same g.G.Value.Worth.cost (g.G.StepGraph.plan c.args.graph.now).numbers.cap c.args.rule c.args.values.now c.requires.range
-    c.index-values-rule.result c.index-values-rule-2.result c.index-values-rule-3.result c.sum-sum.result
-    c.index-values-rule.is c.index-values-rule-2.is c.index-values-rule-3.is c.sum-sum.ensures.value
+    c.index-values-rule.result c.index-values-rule-2.result c.index-values-target.result c.sum-sum.result
+    c.index-values-rule.is c.index-values-rule-2.is c.index-values-target.is c.sum-sum.ensures.value
     (λ h. true≢false (sym (c.if-less.ensures.1 h)))

@@ -13,27 +13,27 @@ pub gather-requires-clause-spots : goal.gather-requires-clause-spots
 gather-requires-clause-spots g c =
     let plan = g.G.StepGraph.plan c.args.graph.now in
     let items = c.in_ok-spots.spots.values.items in
-    let S : IsSpots plan (map g.G.Value.Worth.cost items) c.in_ok-spots.spots.firsts.items = c.in_ok-spots.ensures in
+    let S : IsSpots plan (map g.G.Value.Worth.cost items) c.in_ok-spots.spots.firsts.items = c.in_ok-spots.ensures.spots in
     let q : c.len-count.result ≡ length items = search rules in
     q ∙ sym (length-map items g.G.Value.Worth.cost) ∙ ap length S.starts_are ∙ length-starts plan
 
-pub link-requires : goal.link-requires
-link-requires g c =
+pub list_uses-requires-clause-range : goal.list_uses-requires-clause-range
+list_uses-requires-clause-range g c =
     let plan = g.G.StepGraph.plan c.args.graph.now in
     let items = c.in_ok-spots.spots.values.items in
     let P : IsPlan plan = g.met.G.StepGraph.formed c.args.graph.now in
-    let S : IsSpots plan (map g.G.Value.Worth.cost items) c.in_ok-spots.spots.firsts.items = c.in_ok-spots.ensures in
+    let S : IsSpots plan (map g.G.Value.Worth.cost items) c.in_ok-spots.spots.firsts.items = c.in_ok-spots.ensures.spots in
     let q : c.len-count.result ≡ length items = search rules in
     let n : c.len-count.result ≡ base plan plan.count = q ∙ sym (length-map items g.G.Value.Worth.cost) ∙ ap length S.starts_are ∙ length-starts plan in
     let r : c.as_slice-2.result.now ≡ all_rules plan = c.as_slice-2.ensures.value ∙ c.in_ok-rules.ensures.rules in
     subst (λ z. AllIn c.len-count.result z) (sym r) (subst (λ k. AllIn k (all_rules plan)) (sym n) (rules-in-range plan P))
 
-pub link-requires-2 : goal.link-requires-2
-link-requires-2 g c =
+pub list_uses-requires-2-clause-range : goal.list_uses-requires-2-clause-range
+list_uses-requires-2-clause-range g c =
     let plan = g.G.StepGraph.plan c.args.graph.now in
     let items = c.in_ok-spots.spots.values.items in
     let P : IsPlan plan = g.met.G.StepGraph.formed c.args.graph.now in
-    let S : IsSpots plan (map g.G.Value.Worth.cost items) c.in_ok-spots.spots.firsts.items = c.in_ok-spots.ensures in
+    let S : IsSpots plan (map g.G.Value.Worth.cost items) c.in_ok-spots.spots.firsts.items = c.in_ok-spots.ensures.spots in
     let q : c.len-count.result ≡ length items = search rules in
     let n : c.len-count.result ≡ base plan plan.count = q ∙ sym (length-map items g.G.Value.Worth.cost) ∙ ap length S.starts_are ∙ length-starts plan in
     let r : c.as_slice-3.result.now ≡ all_rules plan = c.as_slice-3.ensures.value ∙ c.in_ok-rules.ensures.rules in
@@ -44,7 +44,7 @@ settle-requires-clause-range g c =
     let plan = g.G.StepGraph.plan c.args.graph.now in
     let items = c.in_ok-spots.spots.values.items in
     let P : IsPlan plan = g.met.G.StepGraph.formed c.args.graph.now in
-    let S : IsSpots plan (map g.G.Value.Worth.cost items) c.in_ok-spots.spots.firsts.items = c.in_ok-spots.ensures in
+    let S : IsSpots plan (map g.G.Value.Worth.cost items) c.in_ok-spots.spots.firsts.items = c.in_ok-spots.ensures.spots in
     let n : length c.as_mut_slice-2.result.now ≡ base plan plan.count =
     ap length c.as_mut_slice-2.ensures.value ∙ sym (length-map items g.G.Value.Worth.cost) ∙ ap length S.starts_are ∙ length-starts plan in
     let r : c.as_slice-6.result.now ≡ all_rules plan = c.as_slice-6.ensures.value ∙ c.in_ok-rules.ensures.rules in
@@ -54,7 +54,7 @@ pub settle-requires-clause-small : goal.settle-requires-clause-small
 settle-requires-clause-small g c =
     let plan = g.G.StepGraph.plan c.args.graph.now in
     let P : IsPlan plan = g.met.G.StepGraph.formed c.args.graph.now in
-    let S : IsSpots plan (map g.G.Value.Worth.cost c.in_ok-spots.spots.values.items) c.in_ok-spots.spots.firsts.items = c.in_ok-spots.ensures in
+    let S : IsSpots plan (map g.G.Value.Worth.cost c.in_ok-spots.spots.values.items) c.in_ok-spots.spots.firsts.items = c.in_ok-spots.ensures.spots in
     let v : map g.G.Value.Worth.cost c.as_mut_slice-2.result.now ≡ all_starts plan = ap (map g.G.Value.Worth.cost) c.as_mut_slice-2.ensures.value ∙ S.starts_are in
     subst (λ p. AllSmall p.numbers.cap (map g.G.Value.Worth.cost c.as_mut_slice-2.result.now)) (sym c.gather.ensures.same)
     (subst (AllSmall plan.numbers.cap) (sym v) (small-starts plan P))
@@ -72,7 +72,7 @@ returns-clause-exact g c =
     let items = c.in_ok-spots.spots.values.items in
     let new = c.settle.new.values in
     let P : IsPlan plan = g.met.G.StepGraph.formed c.args.graph.now in
-    let S : IsSpots plan (map cost items) c.in_ok-spots.spots.firsts.items = c.in_ok-spots.ensures in
+    let S : IsSpots plan (map cost items) c.in_ok-spots.spots.firsts.items = c.in_ok-spots.ensures.spots in
     let v : map cost c.as_mut_slice-2.result.now ≡ all_starts plan = ap (map cost) c.as_mut_slice-2.ensures.value ∙ S.starts_are in
     let r : c.as_slice-6.result.now ≡ all_rules plan = c.as_slice-6.ensures.value ∙ c.in_ok-rules.ensures.rules in
     let n : length new ≡ length items = c.settle.auto.values ∙ ap length c.as_mut_slice-2.ensures.value in

@@ -1,11 +1,11 @@
 use Rattle.std.proofs.Common.{rules, arith, ◌≡◌, ◌+◌, ◌<◌, ◌≤◌, length, map, sym, ap, ◌∙◌, subst, refl, set, suc, true, Some, None}
 use Rattle.std.proofs.lemmas.List.{length-map, length-set}
 use Rattle.least_trees.specs.Board.{IsWhole, IsNext}
-use Rattle.least_trees.specs.Chains.{Chains, all_visited}
+use Rattle.least_trees.specs.Uses.{AreUses, all_visited}
 use Rattle.least_trees.specs.Rules.{AllIn, applied, lower_all}
 use Rattle.least_trees.specs.Solving.{Kept, pending, open_in}
 use Rattle.least_trees.specs.declared.rules.Part.TheVariants.{Left, Right}
-use Rattle.least_trees.proofs.Chaining.{lowers_all, visited-once}
+use Rattle.least_trees.proofs.Visiting.{lowers_all, visited-once}
 use Rattle.least_trees.proofs.Turn.{turn, once, finish}
 use Rattle.least_trees.proofs.Loop.{kept-start, pending-le, open_in-less}
 use Rattle.least_trees.proofs.solver.settle.Goals as goal
@@ -25,10 +25,10 @@ pub settle_one-requires-clause-range : goal.settle_one-requires-clause-range
 settle_one-requires-clause-range g c = subst (λ n. AllIn n c.args.rules.now) (sym c.loop-x.invariant.kept_length) c.requires.range
 
 pub settle_one-requires-clause-left : goal.settle_one-requires-clause-left
-settle_one-requires-clause-left g c = subst (λ n. Chains n Left c.args.rules.now c.args.left.now) (sym c.loop-x.invariant.kept_length) c.requires.left
+settle_one-requires-clause-left g c = subst (λ n. AreUses n Left c.args.rules.now c.args.left.now) (sym c.loop-x.invariant.kept_length) c.requires.left
 
 pub settle_one-requires-clause-right : goal.settle_one-requires-clause-right
-settle_one-requires-clause-right g c = subst (λ n. Chains n Right c.args.rules.now c.args.right.now) (sym c.loop-x.invariant.kept_length) c.requires.right
+settle_one-requires-clause-right g c = subst (λ n. AreUses n Right c.args.rules.now c.args.right.now) (sym c.loop-x.invariant.kept_length) c.requires.right
 
 pub settle_one-requires-clause-spot : goal.settle_one-requires-clause-spot
 settle_one-requires-clause-spot g c =
