@@ -17,8 +17,7 @@ use crate::commands::validate::validate_words;
 use crate::commands::verify::verify_words;
 use crate::commands::work::work_words;
 use crate::words::{
-    is_check, is_compare, is_fill, is_flatten, is_least, is_report, is_validate, is_verify,
-    is_work,
+    is_check, is_compare, is_fill, is_flatten, is_least, is_report, is_validate, is_verify, is_work,
 };
 use jats_chars::Text;
 use jats_io::{Sink, Store, write_all};

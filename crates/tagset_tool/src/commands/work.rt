@@ -91,12 +91,7 @@ fn is_subset_by(alloc: Global, set: &DeclSet, pairs: u32) -> Result<bool, NoMemo
 }
 
 /// Whether the least article of the variant that the set does not allow has so many elements.
-fn is_least(
-    alloc: Global,
-    variant: &DeclSet,
-    set: &DeclSet,
-    size: u32,
-) -> Result<bool, NoMemory> {
+fn is_least(alloc: Global, variant: &DeclSet, set: &DeclSet, size: u32) -> Result<bool, NoMemory> {
     match compared(alloc, variant, set)? {
         Verdict::Not { article, .. } => {
             let found = elements(alloc, &article)?;
@@ -127,8 +122,9 @@ fn lines(alloc: Global, count: u32, pairs: u32) -> Result<Vec<u8>, NoMemory>
     requires { pairs ≡ spec.listed_pairs count }
     ensures { IfOk result (λ v. v.items ≡ spec.work_lines count) }
 {
-    let lines =
-        format!(in alloc; "elements {count}\nself subset\npairs {pairs}\nvariant least {count}\n")?;
+    let lines = format!(in alloc;
+        "elements {count}\nself subset\npairs {pairs}\nvariant least {count}\n"
+    )?;
     Ok(lines.into_bytes())
 }
 
