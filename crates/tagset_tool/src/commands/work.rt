@@ -5,7 +5,9 @@
 //! is done for its own sake. The lines are written only where it came to them. No text that is generated has a fault, so a
 //! build that works writes them unless memory runs out, and one that does not stops as where memory runs out.
 
-ghost use Rattle.std.specs.Prelude.{◌≡◌, ◌≤◌, IfOk, IsTrue, MatchResult};
+ghost use Rattle.std.specs.Prelude.{◌≡◌, ◌≤◌, IfOk, IsTrue};
+ghost use Rattle.tagset_tool.specs.Outcomes.{answering};
+ghost use Rattle.tagset_tool.specs.Runs.{IsLoadFailed, AnswersAbsence, Says};
 ghost use Rattle.tagset_tool.specs.Words as asked;
 ghost use Rattle.tagset_tool.specs.commands.Work as spec;
 
@@ -13,7 +15,7 @@ use crate::answer::{Answer, MOST_WRITTEN, Stop};
 use crate::words::count_or_1;
 use bound_checker::Tables;
 use decl_set::DeclSet;
-use document_trees::elements;
+use document_trees::{Node, elements};
 use entity_catalog::Catalog;
 use jats_chars::{Name, NoMemory, Text};
 use jats_io::SoundStore;
@@ -90,13 +92,16 @@ fn is_subset_by(alloc: Global, set: &DeclSet, pairs: u32) -> Result<bool, NoMemo
     }
 }
 
+/// Whether an article has so many elements.
+fn has_size(alloc: Global, article: &Node, size: u32) -> Result<bool, NoMemory> {
+    let found = elements(alloc, article)?;
+    Ok(found == size as u64)
+}
+
 /// Whether the least article of the variant that the set does not allow has so many elements.
 fn is_least(alloc: Global, variant: &DeclSet, set: &DeclSet, size: u32) -> Result<bool, NoMemory> {
     match compared(alloc, variant, set)? {
-        Verdict::Not { article, .. } => {
-            let found = elements(alloc, &article)?;
-            Ok(found == size as u64)
-        }
+        Verdict::Not { article, .. } => has_size(alloc, &article, size),
         _ => Ok(false),
     }
 }
@@ -108,13 +113,29 @@ fn listed_pairs(count: u32) -> u32
     if count <= 1 { 1 } else { 3 * count - 3 }
 }
 
-/// Whether the work comes to what its lines say.
+/// Whether the comparisons come to what the lines say.
+fn agrees(
+    alloc: Global,
+    set: &DeclSet,
+    variant: &DeclSet,
+    count: u32,
+    pairs: u32,
+) -> Result<bool, NoMemory> {
+    let subset = is_subset_by(alloc, set, pairs)?;
+    let least = is_least(alloc, variant, set, count)?;
+    Ok(subset && least)
+}
+
+/// The same, where the variant is not read yet.
+fn agrees_with(alloc: Global, set: &DeclSet, count: u32, pairs: u32) -> Result<bool, NoMemory> {
+    let variant = read_generated(alloc, count, "(#PCDATA)")?;
+    agrees(alloc, set, &variant, count, pairs)
+}
+
+/// The same from nothing: both texts are read.
 fn works(alloc: Global, count: u32, pairs: u32) -> Result<bool, NoMemory> {
     let set = read_generated(alloc, count, "EMPTY")?;
-    let variant = read_generated(alloc, count, "(#PCDATA)")?;
-    let subset = is_subset_by(alloc, &set, pairs)?;
-    let least = is_least(alloc, &variant, &set, count)?;
-    Ok(subset && least)
+    agrees_with(alloc, &set, count, pairs)
 }
 
 /// The lines.
@@ -144,7 +165,11 @@ fn worked(alloc: Global, count: u32) -> Result<Vec<u8>, NoMemory>
 /// The answer to `work`, which asks for no file.
 pub fn work_words(alloc: Global, words: &[Text]) -> Result<Answer, Stop>
     requires { IsTrue (asked.is_work words.now) }
-    ensures { MatchResult result (λ a. (a.status ≡ 0) × (a.bytes.items ≡ spec.work_lines (asked.count_or_1 (asked.word words.now 1)))) (λ stop. stop ≡ Stop.NoMemory) }
+    ensures faults { IsLoadFailed result → ⊥ }
+    ensures absences { AnswersAbsence result → ⊥ }
+    ensures says { IfOk result (λ a. Says a.status a.bytes.items) }
+    ensures status { IfOk result (λ a. a.status ≤ 2) }
+    ensures told { IfOk result (λ a. answering 0 (spec.work_lines (asked.count_or_1 (asked.word words.now 1))) a.status a.bytes.items) }
 {
     match worked(alloc, count_or_1(&words[1])) {
         Ok(bytes) => Ok(Answer { status: 0, bytes }),
