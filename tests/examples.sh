@@ -93,6 +93,7 @@ expect 0 'above 9' least $house/catalog.txt $house/house.dtd article 9
 expect 0 'certified subset' verify examples/subset.txt - examples/second.dtd - examples/first.dtd
 expect 0 'certified at least 3' verify examples/not-subset.txt - examples/first.dtd - examples/second.dtd
 expect 2 'refused E70 CertMalformed examples/not-subset.txt 26' verify examples/not-subset.txt - examples/second.dtd - examples/first.dtd
+expect 0 $'elements 1000\nself subset\npairs 2997\nvariant least 1000' work 1000
 ./tagset compare - examples/first.dtd - examples/second.dtd r 0 > /dev/full 2>/dev/null
 if [ $? -eq 5 ]; then passed=$((passed + 1)); else failed=$((failed + 1)); echo "failed: a full device is not status 5"; fi
 echo "$passed passed, $failed failed"

@@ -17,7 +17,7 @@ use Rattle.tagset_tool.specs.declared.answer.Stop.{Stop}
 use Rattle.tagset_tool.specs.declared.answer.Stop.TheVariants as stop
 use Rattle.tagset_tool.specs.Outcomes.{Outcome, after}
 use Rattle.tagset_tool.specs.Runs.{StopsAs}
-use Rattle.tagset_tool.specs.Words.{word, cap_in, is_compare, is_fill, is_least, is_report, is_validate, is_verify}
+use Rattle.tagset_tool.specs.Words.{word, cap_in, count_in, is_compare, is_fill, is_least, is_report, is_validate, is_verify, is_work}
 
 -- what a place of the words has
 pub word_at : (words : List (List ℕ)) (i : ℕ) (x : List ℕ) → i < length words → x ≡ get_or words i x → x ≡ word words i
@@ -45,6 +45,10 @@ five_words words t = eqb-true (length words) 5 (and_parts (length words == 5) (b
 
 pub four_words : (words : List (List ℕ)) → is_fill words ≡ true → length words ≡ 4
 four_words words t = eqb-true (length words) 4 (and_parts (length words == 4) (bytes_eq (word words 0) (codes "fill")) t).0
+
+-- and those of `work` are two
+pub two_words : (words : List (List ℕ)) → is_work words ≡ true → length words ≡ 2
+two_words words t = eqb-true (length words) 2 (and_parts (length words == 2) (bytes_eq (word words 0) (codes "work") && is_some (count_in (word words 1))) t).0
 
 -- what is answered where a set is not read
 stopped_by : {X : Type 0} → (outcome : Result X Fault) (next : X → Outcome) (fault : ReadFault) (result : Result Answer Stop) → Reads outcome (Err fault) → StopsAs fault result → IfOk result (λ a. after outcome next a.status a.bytes.items)

@@ -25,6 +25,7 @@ use Rattle.bound_checker.specs.Tabled.{costs_of}
 use Rattle.bound_checker.specs.Tests.{first_broken}
 use Rattle.bound_checker.specs.declared.check.Broken.{Broken}
 use Rattle.bound_checker.specs.declared.tables.Tables.{Tables}
+use Rattle.tagset_tool.specs.commands.Work.{work_lines}
 use Rattle.tagset_tool.specs.commands.Verify.{broken_words, certified, checked, claim, most_certified, verifies, verifies_by}
 use Rattle.tagset_compare.specs.declared.fault.CompareFault.{CompareFault}
 use Rattle.tagset_compare.specs.declared.fault.CompareFault.TheVariants as compared
@@ -39,7 +40,7 @@ use Rattle.tagset_tool.specs.Counts.{count_lines}
 use Rattle.tagset_tool.specs.Outcomes.{IsUnique, Outcome, after, answering, fitting, most_written, refusing}
 use Rattle.tagset_tool.specs.Output.{IsOutput, outcome_of, usage_line}
 use Rattle.tagset_tool.specs.Refusals.{cert_malformed, output_over, pairs_over, root_undeclared}
-use Rattle.tagset_tool.specs.Words.{Asked, SetWords, check, flatten, validate, fill, compare, report, least, verify, asked, both_by, set_by}
+use Rattle.tagset_tool.specs.Words.{Asked, SetWords, check, flatten, validate, fill, compare, report, least, verify, work, asked, both_by, set_by}
 use Rattle.article_files.specs.Bytes.{article_in}
 use Rattle.article_validator.specs.Faults.{fault_list}
 use Rattle.article_validator.specs.declared.fault.Invalid.{Invalid}
@@ -182,6 +183,7 @@ outcome_unique (Some (compare first second root cap)) files = compares_unique fi
 outcome_unique (Some (report first second root)) files = reports_unique files first second root
 outcome_unique (Some (least words root cap)) files = leasts_unique files words root cap
 outcome_unique (Some (verify certificate first second)) files = verifies_unique files certificate first second
+outcome_unique (Some (work count)) files = answering_unique 0 (work_lines count)
 
 pub one_output : (words : List (List ℕ)) (files : Files) → IsUnique (IsOutput words files)
 one_output words files = outcome_unique (asked words) files

@@ -22,6 +22,7 @@ use Rattle.bound_checker.specs.Tests.{first_broken}
 use Rattle.bound_checker.specs.declared.check.Broken.{Broken}
 use Rattle.bound_checker.specs.declared.tables.Tables.{Tables}
 use Rattle.tagset_tool.specs.commands.Verify.{broken_words, certified, checked, claim}
+use Rattle.tagset_tool.specs.commands.Work.{work_lines}
 use Rattle.tagset_tool.specs.commands.Fill.{filled_text}
 use Rattle.tagset_tool.specs.commands.Validate.{judged, fault_lines, valid_line}
 use Rattle.tagset_compare.specs.declared.fault.CompareFault.{CompareFault}
@@ -195,3 +196,7 @@ least_from_present set root cap (Some content) status bytes over = by_size_prese
 -- nor is a least article
 pub least_present : (root : List ℕ) (cap : ℕ) (set : Declarations) (status : ℕ) (bytes : List ℕ) → least_in root cap set status bytes → IsPresent bytes
 least_present root cap set status bytes over = least_from_present set root cap (content_in set root) status bytes over
+
+-- nor are the lines of generated work
+pub work_present : (count : ℕ) (status : ℕ) (bytes : List ℕ) → answering 0 (work_lines count) status bytes → IsPresent bytes
+work_present count status bytes over = same_present bytes (work_lines count) over.1 (λ t. let off : IsTrue false = t in cc)

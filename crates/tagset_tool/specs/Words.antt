@@ -23,6 +23,7 @@ pub data Asked : Type 0 where
   report : (first second : SetWords) (root : List ℕ) → Asked
   least : SetWords → (root : List ℕ) (cap : ℕ) → Asked
   verify : (certificate : List ℕ) (first second : SetWords) → Asked
+  work : (count : ℕ) → Asked
 
 abbrev pub word : List (List ℕ) → ℕ → List ℕ
 word words k = slice_index_or words k []
@@ -74,6 +75,17 @@ is_least words = length words == 5 && (bytes_eq (word words 0) (codes "least") &
 abbrev pub is_verify : List (List ℕ) → Bool
 is_verify words = length words == 6 && bytes_eq (word words 0) (codes "verify")
 
+-- a number of elements: without leading zeros, from 1 to 1,000
+abbrev pub count_in : List ℕ → Option ℕ
+count_in word = option_and_then (λ n. if nat_le 1 n && nat_le n 1000 then Some n else None) (short_number_in word)
+
+abbrev pub count_or_1 : List ℕ → ℕ
+count_or_1 word = option_map_or (λ n. n) (count_in word) 1
+
+-- work N
+abbrev pub is_work : List (List ℕ) → Bool
+is_work words = length words == 2 && (bytes_eq (word words 0) (codes "work") && is_some (count_in (word words 1)))
+
 abbrev pub asked : List (List ℕ) → Option Asked
 asked words =
     if is_check words then Some (check (set_words words 1))
@@ -84,6 +96,7 @@ asked words =
     else if is_report words then Some (report (set_words words 1) (set_words words 3) (word words 5))
     else if is_least words then Some (least (set_words words 1) (word words 3) (cap_or_0 (word words 4)))
     else if is_verify words then Some (verify (word words 1) (set_words words 2) (set_words words 4))
+    else if is_work words then Some (work (count_or_1 (word words 1)))
     else None
 
 -- the set that words name, or the first refusal

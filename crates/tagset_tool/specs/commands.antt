@@ -6,3 +6,4 @@ pub mod Least
 pub mod Report
 pub mod Validate
 pub mod Verify
+pub mod Work

@@ -8,3 +8,4 @@ pub mod least;
 pub mod report;
 pub mod validate;
 pub mod verify;
+pub mod work;

@@ -15,8 +15,9 @@ use crate::commands::least::least_words;
 use crate::commands::report::report_words;
 use crate::commands::validate::validate_words;
 use crate::commands::verify::verify_words;
+use crate::commands::work::work_words;
 use crate::words::{
-    is_check, is_compare, is_fill, is_flatten, is_least, is_report, is_validate, is_verify,
+    is_check, is_compare, is_fill, is_flatten, is_least, is_report, is_validate, is_verify, is_work,
 };
 use jats_chars::Text;
 use jats_io::{Sink, Store, write_all};
@@ -58,6 +59,8 @@ fn answer_to<S: Store>(alloc: Global, words: &[Text], store: &mut S) -> Result<A
         least_words(alloc, words, store)
     } else if is_verify(words) {
         verify_words(alloc, words, store)
+    } else if is_work(words) {
+        work_words(alloc, words)
     } else {
         usage(alloc)
     }

@@ -102,6 +102,35 @@ pub fn is_verify(words: &[Text]) -> bool
     words.len() == 6 && is_word(&words[0], &['v', 'e', 'r', 'i', 'f', 'y'])
 }
 
+/// A number of elements: without leading zeros, from 1 to 1,000.
+fn count_of(word: &Text) -> Option<u32>
+    ensures value { result ≡ spec.count_in word.now }
+    ensures small { IfSome result (λ n. n ≤ 1000) }
+{
+    match number(word.as_slice()) {
+        None => None,
+        Some(n) => { if 1 <= n && n <= 1000 { Some(n) } else { None } }
+    }
+}
+
+/// The number of elements that a word writes, or 1 where it writes none.
+pub fn count_or_1(word: &Text) -> u32
+    ensures value { result ≡ spec.count_or_1 word.now }
+    ensures small { result ≤ 1000 }
+{
+    match count_of(word) {
+        None => 1,
+        Some(count) => count,
+    }
+}
+
+/// Whether the words ask for generated work.
+pub fn is_work(words: &[Text]) -> bool
+    ensures { result ≡ spec.is_work words.now }
+{
+    words.len() == 2 && is_word(&words[0], &['w', 'o', 'r', 'k']) && count_of(&words[1]).is_some()
+}
+
 /// The file of a catalog; `-` names none.
 fn catalog_word(word: &Text) -> Option<&Text>
     ensures { option_copied result ≡ spec.catalog_word word.now }
