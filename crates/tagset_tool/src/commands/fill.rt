@@ -1,39 +1,54 @@
 //! `fill`: an article with its defaults.
 
-ghost use Rattle.std.specs.Prelude.{◌≡◌, ◌≤◌, IfOk, IfSome, IsTrue};
+ghost use Rattle.std.specs.Prelude.{◌≡◌, ◌≤◌, ◌++◌, ◌∷◌, [], IfOk, IfSome, IsTrue, encode_utf8_all};
+ghost use Rattle.article_tree.specs.Writing.{write};
 ghost use Rattle.jats_io.specs.Causes.{HasCause};
-ghost use Rattle.tagset_tool.specs.Outcomes.{fitting};
+ghost use Rattle.tagset_tool.specs.Outcomes.{fitting as fits};
 ghost use Rattle.tagset_tool.specs.Runs.{IsLoadFailed, AnswersAbsence, Says};
 ghost use Rattle.tagset_tool.specs.Words as asked;
 ghost use Rattle.tagset_tool.specs.commands.Fill as spec;
 
-use crate::answer::{Answer, Stop, fitting, stop_of};
+use crate::answer::{Answer, MOST_WRITTEN, Stop, fitting, refused, stop_of};
+use crate::refusals::output_over;
 use crate::words::read_words;
 use article_files::load_article;
-use article_tree::{Node, write_article};
+use article_tree::{Node, write_article, written_size};
 use article_validator::fill;
 use decl_set::DeclSet;
 use jats_chars::{NoMemory, Text};
 use jats_io::Store;
 use std::alloc::Global;
 
-/// The text of the article with its defaults.
-fn filled_text(alloc: Global, set: &DeclSet, node: &Node) -> Result<Vec<u8>, NoMemory>
-    ensures { IfOk result (λ v. v.items ≡ spec.filled_text set.now node.now) }
+/// The text of an article, and LF.
+fn ended_text(alloc: Global, node: &Node) -> Result<Vec<u8>, NoMemory>
+    ensures { IfOk result (λ v. v.items ≡ encode_utf8_all (write node.now) ++ 10 ∷ []) }
 {
-    let node = fill(alloc, set, node)?;
-    let mut bytes = write_article(alloc, &node)?;
+    let mut bytes = write_article(alloc, node)?;
     bytes.push(10)?;
     Ok(bytes)
 }
 
-/// The article with its defaults, unless it is too long.
-fn filled(alloc: Global, set: &DeclSet, node: &Node) -> Result<Answer, NoMemory>
-    ensures fits { IfOk result (λ a. fitting 0 (spec.filled_text set.now node.now) a.status a.bytes.items) }
+/// The text of an article, and LF, unless it is too long, which is known before it is made.
+fn written(alloc: Global, node: &Node) -> Result<Answer, NoMemory>
+    ensures fits { IfOk result (λ a. fits 0 (encode_utf8_all (write node.now) ++ 10 ∷ []) a.status a.bytes.items) }
     ensures says { IfOk result (λ a. Says a.status a.bytes.items) }
 {
-    let bytes = filled_text(alloc, set, node)?;
-    fitting(alloc, 0, bytes)
+    if written_size(alloc, node)? >= MOST_WRITTEN {
+        let refusal = output_over(alloc)?;
+        refused(alloc, &refusal)
+    } else {
+        let bytes = ended_text(alloc, node)?;
+        fitting(alloc, 0, bytes)
+    }
+}
+
+/// The article with its defaults, unless it is too long.
+fn filled(alloc: Global, set: &DeclSet, node: &Node) -> Result<Answer, NoMemory>
+    ensures fits { IfOk result (λ a. fits 0 (spec.filled_text set.now node.now) a.status a.bytes.items) }
+    ensures says { IfOk result (λ a. Says a.status a.bytes.items) }
+{
+    let node = fill(alloc, set, node)?;
+    written(alloc, &node)
 }
 
 /// The answer to `fill`.
