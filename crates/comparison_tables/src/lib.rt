@@ -21,6 +21,7 @@ mod graph;
 mod held;
 mod kinds;
 mod laws;
+mod near;
 mod places;
 mod rows;
 mod sides;
