@@ -102,7 +102,7 @@ impl Held<'_> {
         requires state { step.1 < states self.now.automaton.now }
         ensures { result ≡ spec.to_other (known_in self.now) (known_in self.now).other j name.now step }
     {
-        match self.second.automaton_of(self.name) {
+        match self.other {
             None => NO_STEP,
             Some(other) => self.either(step, follows_near(other, j, name, k)),
         }
