@@ -1,13 +1,13 @@
 -- What is found once of each element is what is known of it.
 use Rattle.std.proofs.Common.{◌≡◌, ◌<◌, ◌≤◌, ◌+◌, ℕ, inl, inr, List, [], ◌∷◌, ◌++◌, length, Option, Some, None, slice_get, refl, sym, ap, ◌∙◌, subst, arith}
-use Rattle.std.specs.Option.{option_map, option_copied}
+use Rattle.std.specs.Option.{option_map}
 use Rattle.std.proofs.lemmas.Bool.{cases_lt}
 use Rattle.decl_set.specs.Declarations.{Declarations, Element}
 use Rattle.model_inclusion.specs.Listed.{IsAscending}
 use Rattle.comparison_tables.specs.declared.entries.Entry.{Entry}
 use Rattle.comparison_tables.specs.declared.sides.Side.{Side}
 use Rattle.comparison_tables.specs.Entries.{Named, named_in, named_by, named_at, AreEntries}
-use Rattle.comparison_tables.specs.Shapes.{AreFine, IsFine}
+use Rattle.comparison_tables.specs.Shapes.{AreFine}
 use Rattle.comparison_tables.specs.Sides.{known}
 use Rattle.comparison_tables.proofs.Knowing.{fine_at}
 use Rattle.comparison_tables.proofs.Rowed.{got_first, got_last, got_past, one_longer}
