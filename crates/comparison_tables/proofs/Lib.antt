@@ -18,6 +18,7 @@ pub mod Standing
 pub mod Carried
 pub mod Sized
 pub mod Rowed
+pub mod Entered
 pub mod Growing
 pub mod Small
 pub mod Tabled

@@ -24,7 +24,7 @@ got_last [] y (suc i) l = absurd (omega arith)
 got_last (x ∷ xs) y zero l = absurd (omega arith)
 got_last (x ∷ xs) y (suc i) l = got_last xs y i (omega arith)
 
-got_past : {A : Type 0} (xs : List A) (i : ℕ) → length xs ≤ i → slice_get xs i ≡ None
+pub got_past : {A : Type 0} (xs : List A) (i : ℕ) → length xs ≤ i → slice_get xs i ≡ None
 got_past [] i l = refl
 got_past (x ∷ xs) zero l = absurd (omega arith)
 got_past (x ∷ xs) (suc i) l = got_past xs i (omega arith)

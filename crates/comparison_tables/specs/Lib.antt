@@ -2,6 +2,7 @@ pub mod Kinds
 pub mod Sides
 pub mod Shapes
 pub mod Finding
+pub mod Entries
 pub mod Holding
 pub mod Copies
 pub mod Plans

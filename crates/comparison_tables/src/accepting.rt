@@ -1,4 +1,4 @@
-//! Which states of a copy accept.
+//! The states of a copy, and which of them accept.
 
 ghost use Rattle.std.specs.Prelude.{◌≡◌};
 ghost use Rattle.std.specs.Option.{option_copied};
@@ -28,6 +28,15 @@ fn accepts_alone(automaton: &Automaton, other: Option<&Automaton>, i: u32, j: u3
 }
 
 impl Held<'_> {
+    /// How many states the copy has.
+    pub(crate) fn states(&self) -> u32
+        requires { IsHeld self.now }
+        ensures { result ≡ spec.copy_states (known_in self.now) }
+    {
+        let _ = self.first.count();
+        1 + 2 * self.automaton.states() + self.side.pairs.len() as u32
+    }
+
     /// What a state of the copy is for.
     pub(crate) fn kind(&self, t: u32) -> Kind
         ensures { result ≡ spec.kind_in (known_in self.now) t }
@@ -39,7 +48,7 @@ impl Held<'_> {
     fn alone(&self, i: u32, j: u32) -> bool
         ensures { result ≡ spec.accepts_alone (known_in self.now).content (known_in self.now).other i j }
     {
-        accepts_alone(self.automaton, self.second.automaton_of(self.name), i, j)
+        accepts_alone(self.automaton, self.other, i, j)
     }
 
     /// Whether a state of the copy accepts.

@@ -1,11 +1,14 @@
 //! The elements of the first set and their copies, by place.
 
-ghost use Rattle.std.specs.Prelude.{◌≡◌, slice_get};
+ghost use Rattle.std.specs.Prelude.{◌≡◌, IfSome, option_map, slice_get};
+ghost use Rattle.comparison_tables.specs.Entries.{AreEntries};
+ghost use Rattle.comparison_tables.specs.Holding.{IsHeld, known_in};
 ghost use Rattle.comparison_tables.specs.Plans.{own_states, own_accepts, own_steps, states_of_copy, copy_accepts_at, steps_of_copy};
 ghost use Rattle.comparison_tables.specs.Shapes.{AreFine};
 ghost use Rattle.comparison_tables.specs.Sides.{known_at};
 
 use crate::accepting::accepts;
+use crate::entries::Entry;
 use crate::held::{Held, element_at};
 use crate::sides::Sides;
 use crate::steps::Step;
@@ -38,18 +41,49 @@ pub(crate) fn own_step_at(first: &DeclSet, place: usize, state: u32, k: usize) -
     first.child_at(place, state, k)
 }
 
-/// How many states its copy has.
-pub(crate) fn copy_states_at(first: &DeclSet, second: &DeclSet, sides: &Sides, place: usize) -> u32
-    requires { AreFine first.now.elements sides.now }
-    ensures { result ≡ states_of_copy (known_at first.now second.now sides.now place) }
+/// The element at a place with what is held of it, or None exactly where there are no more elements.
+fn held_at<'a>(
+    first: &'a DeclSet,
+    second: &'a DeclSet,
+    sides: &'a Sides,
+    entries: &'a [Entry<'a>],
+    place: usize,
+) -> Option<Held<'a>>
+    requires fine { AreFine first.now.elements sides.now }
+    requires entries { AreEntries first.now second.now sides.now entries.now }
+    ensures known { option_map known_in result ≡ known_at first.now second.now sides.now place }
+    ensures held { IfSome result IsHeld }
+    ensures first { IfSome result (λ h. h.first.now ≡ first.now) }
 {
     let _ = first.count();
-    match element_at(first, place) {
+    match entries.get(place) {
+        None => None,
+        Some(entry) => Some(Held {
+            first,
+            place,
+            name: entry.name,
+            automaton: entry.automaton,
+            other: entry.other,
+            side: entry.side,
+        }),
+    }
+}
+
+/// How many states its copy has.
+pub(crate) fn copy_states_at(
+    first: &DeclSet,
+    second: &DeclSet,
+    sides: &Sides,
+    entries: &[Entry<'_>],
+    place: usize,
+) -> u32
+    requires fine { AreFine first.now.elements sides.now }
+    requires entries { AreEntries first.now second.now sides.now entries.now }
+    ensures { result ≡ states_of_copy (known_at first.now second.now sides.now place) }
+{
+    match held_at(first, second, sides, entries, place) {
         None => 0,
-        Some((name, automaton)) => match sides.get(place) {
-            None => 0,
-            Some(side) => 1 + 2 * automaton.states() + side.pairs.len() as u32,
-        },
+        Some(held) => held.states(),
     }
 }
 
@@ -58,26 +92,17 @@ pub(crate) fn copy_accepts_of(
     first: &DeclSet,
     second: &DeclSet,
     sides: &Sides,
+    entries: &[Entry<'_>],
     place: usize,
     state: u32,
 ) -> bool
-    requires { AreFine first.now.elements sides.now }
+    requires fine { AreFine first.now.elements sides.now }
+    requires entries { AreEntries first.now second.now sides.now entries.now }
     ensures { result ≡ copy_accepts_at (known_at first.now second.now sides.now place) state }
 {
-    match element_at(first, place) {
+    match held_at(first, second, sides, entries, place) {
         None => false,
-        Some((name, automaton)) => match sides.get(place) {
-            None => false,
-            Some(side) => Held {
-                first,
-                second,
-                place,
-                name,
-                automaton,
-                side,
-            }
-            .accepts(state),
-        },
+        Some(held) => held.accepts(state),
     }
 }
 
@@ -86,28 +111,17 @@ pub(crate) fn copy_step_at(
     first: &DeclSet,
     second: &DeclSet,
     sides: &Sides,
+    entries: &[Entry<'_>],
     place: usize,
     state: u32,
     k: usize,
 ) -> Option<Step>
-    requires { AreFine first.now.elements sides.now }
+    requires fine { AreFine first.now.elements sides.now }
+    requires entries { AreEntries first.now second.now sides.now entries.now }
     ensures { result ≡ slice_get (steps_of_copy first.now (known_at first.now second.now sides.now place) state) k }
 {
-    let _ = first.count();
-    let _ = second.count();
-    match element_at(first, place) {
+    match held_at(first, second, sides, entries, place) {
         None => None,
-        Some((name, automaton)) => match sides.get(place) {
-            None => None,
-            Some(side) => Held {
-                first,
-                second,
-                place,
-                name,
-                automaton,
-                side,
-            }
-            .step(state, k),
-        },
+        Some(held) => held.step(state, k),
     }
 }

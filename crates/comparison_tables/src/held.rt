@@ -8,14 +8,15 @@ use decl_set::DeclSet;
 use jats_chars::Name;
 use position_automata::Automaton;
 
-/// An element of the first set at its place, with its automaton and its side.
+/// An element of the first set at its place, with its automaton, that of the second where it declares the element, and its
+/// side.
 #[derive(Clone, Copy)]
 pub(crate) struct Held<'a> {
     pub first: &'a DeclSet,
-    pub second: &'a DeclSet,
     pub place: usize,
     pub name: &'a Name,
     pub automaton: &'a Automaton,
+    pub other: Option<&'a Automaton>,
     pub side: &'a Side,
 }
 

@@ -3,7 +3,6 @@
 ghost use Rattle.std.specs.Prelude.{◌≡◌, ◌≤◌, ◌<◌, ◌^◌, IfSome, length, option_map, slice_get};
 ghost use Rattle.std.specs.List.{flat_map};
 ghost use Rattle.position_automata.specs.Automata.{states};
-ghost use Rattle.position_automata.specs.Stepping.{step_on};
 ghost use Rattle.decl_set.specs.Children.{child_step};
 ghost use Rattle.decl_set.specs.Steps.{steps_in};
 ghost use Rattle.comparison_tables.specs.Copies as spec;
@@ -11,9 +10,8 @@ ghost use Rattle.comparison_tables.specs.Holding.{IsHeld, known_in};
 
 use crate::held::Held;
 use crate::kinds::Kind;
-use crate::places::pair_place;
+use crate::near::{follows_near, place_near};
 use jats_chars::Name;
-use position_automata::Automaton;
 
 /// A step: the place of its child, or None where it has none, and the number of the state that it leads to.
 pub(crate) type Step = (Option<usize>, u32);
@@ -70,17 +68,6 @@ fn to_odd(odd: bool, step: Step) -> Step
     if odd { to_go(step) } else { NO_STEP }
 }
 
-/// The state that follows on a name, where there is such a state.
-fn follows(automaton: &Automaton, state: u32, name: &Name) -> Option<u32>
-    ensures { result ≡ step_on automaton.now state name.now }
-{
-    if state < automaton.states() {
-        automaton.step(state, name)
-    } else {
-        None
-    }
-}
-
 impl Held<'_> {
     /// The k-th step of a state of the content, with the place of its child.
     fn child(&self, i: u32, k: usize) -> Option<Step>
@@ -104,20 +91,20 @@ impl Held<'_> {
             Some(l) => to_listed(
                 self.automaton.states(),
                 step,
-                pair_place(self.side.pairs.as_slice(), step.1, l),
+                place_near(self.side.pairs.as_slice(), step.1, l),
             ),
         }
     }
 
-    /// Where a step on a name leads from a pair whose second state is j.
-    fn other(&self, j: u32, name: &Name, step: Step) -> Step
+    /// Where a step on a name leads from a pair whose second state is j. The second's k-th step is looked at first.
+    fn other(&self, j: u32, name: &Name, k: usize, step: Step) -> Step
         requires held { IsHeld self.now }
         requires state { step.1 < states self.now.automaton.now }
         ensures { result ≡ spec.to_other (known_in self.now) (known_in self.now).other j name.now step }
     {
-        match self.second.automaton_of(self.name) {
+        match self.other {
             None => NO_STEP,
-            Some(other) => self.either(step, follows(other, j, name)),
+            Some(other) => self.either(step, follows_near(other, j, name, k)),
         }
     }
 
@@ -130,7 +117,7 @@ impl Held<'_> {
             None => None,
             Some(step) => match self.first.step_at(self.place, i, k) {
                 None => None,
-                Some((name, _)) => Some(self.other(j, name, step)),
+                Some((name, _)) => Some(self.other(j, name, k, step)),
             },
         }
     }

@@ -41,7 +41,7 @@ fn solved_rows(
 {
     let _ = first.count();
     let _ = second.count();
-    let mut graph = ComparisonGraph::new(first, second, sides, cap);
+    let mut graph = ComparisonGraph::new(alloc, first, second, sides, cap)?;
     let settled = least_counted(alloc, &mut graph)?;
     rows_of(alloc, first, second, sides, settled.rows.as_slice())
 }
