@@ -2,7 +2,7 @@
 a document names are there.
 
 An example is a line that begins with `$ `, indented by four spaces in Markdown, and the lines below it are its output, up to the
-next such line or the end of the block. All examples of a document run in one folder, which has what the repository's top has.
+next such line or the end of the block. All examples of a document run in one folder, which has the commands and the examples.
 """
 
 import os
@@ -57,11 +57,13 @@ def edits_named(text):
                 yield f"{crate}/{name}"
 
 
-def copy_of_top(folder):
-    for name in os.listdir(TOP):
-        if not name.startswith(".git"):
-            os.symlink(os.path.join(TOP, name), os.path.join(folder, name))
-    os.unlink(os.path.join(folder, "examples"))
+def as_at_the_top(folder):
+    """The commands and the examples stand in the folder as at the top of the repository."""
+    for name in ("tagset", "where"):
+        path = os.path.join(folder, name)
+        with open(path, "w", encoding="utf-8") as file:
+            file.write(f"#!/bin/sh\nexec '{TOP}/{name}' \"$@\"\n")
+        os.chmod(path, 0o755)
     subprocess.run(["cp", "-r", os.path.join(TOP, "examples"), folder], check=True)
 
 
@@ -72,7 +74,7 @@ def main():
         if not os.path.exists(path):
             continue
         with open(path, encoding="utf-8") as file, tempfile.TemporaryDirectory() as folder:
-            copy_of_top(folder)
+            as_at_the_top(folder)
             for command, output in examples(name, file.read()):
                 run = subprocess.run(["bash", "-c", command], cwd=folder, capture_output=True, text=True)
                 if run.stdout.splitlines() == output:

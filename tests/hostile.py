@@ -4,6 +4,7 @@ Each case runs the built program: `./tagset`'s, or what the variable TAGSET name
 
 import os
 import resource
+import shutil
 import signal
 import subprocess
 import sys
@@ -72,6 +73,17 @@ def fed(path, pieces):
     return thread
 
 
+def unreadable(program, folder):
+    """The program stands beside the file, since whoever gives their rights up may not reach it elsewhere."""
+    beside = shutil.copy(program, folder)
+    os.chmod(beside, 0o755)
+    try:
+        return differs(run(beside, ["check", "-", "closed.dtd"], folder, as_nobody), 4, b"")
+    except PermissionError:
+        print("a file that may not be read: not tried, since no other user reaches the folder of temporary files", flush=True)
+        return None
+
+
 def strange_files(program, count):
     good = b"ok\nelements 1\nattributes 0\nentities 0\nnotations 0\n"
     with tempfile.TemporaryDirectory() as folder:
@@ -82,7 +94,7 @@ def strange_files(program, count):
         os.symlink("/dev/zero", Path(folder, "endless.dtd"))
         os.symlink("nothing", Path(folder, "dangling.dtd"))
         os.mkfifo(Path(folder, "pipe.dtd"))
-        count.case("a file that may not be read", differs(run(program, ["check", "-", "closed.dtd"], folder, as_nobody), 4, b""))
+        count.case("a file that may not be read", unreadable(program, folder))
         count.case("a folder in a file's place", differs(run(program, ["check", "-", "folder.dtd"], folder), 4, b""))
         count.case("a file without an end", differs(run(program, ["check", "-", "endless.dtd"], folder), 2, b"refused E11 ModuleLong endless.dtd 0\n"))
         count.case("a link to nothing", differs(run(program, ["check", "-", "dangling.dtd"], folder), 2, b"refused E10 ModuleAbsent dangling.dtd 0\n"))
