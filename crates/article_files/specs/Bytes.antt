@@ -1,5 +1,6 @@
 -- The bytes of a file of a store, and the article that they are.
 use Rattle.std.specs.Prelude.{ℕ, List, [], length, nat_lt, Option, Some, None, Result, Ok, Err, if◌then◌else◌}
+use Rattle.jats_chars.specs.declared.limits.TheConstants as limit
 use Rattle.dtd_scanner.specs.Walk.{◌>>=◌}
 use Rattle.jats_fault.specs.declared.fault.Fault.{Fault}
 use Rattle.jats_fault.specs.declared.numbers.TheConstants as number
@@ -21,7 +22,7 @@ file_bytes limit files name = bytes_held limit name (held files name)
 
 -- how many bytes an article has at most
 abbrev pub most_bytes : ℕ
-most_bytes = 33554432
+most_bytes = limit.ARTICLE_BYTES
 
 -- the node of the article of a file, with these general entities, or the first fault
 abbrev pub article_in : Files → List Entity → List ℕ → Result Node Fault

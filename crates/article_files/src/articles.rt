@@ -11,12 +11,10 @@ use crate::bytes::load_bytes;
 use article_tree::{ArticleFault, Node, read_article};
 use decl_set::DeclSet;
 use jats_chars::Text;
+use jats_chars::limits::ARTICLE_BYTES;
 use jats_io::Store;
 use module_reader::ReadFault;
 use std::alloc::Global;
-
-/// The most bytes of an article.
-const MOST_BYTES: usize = 33_554_432;
 
 fn handed_out(fault: ArticleFault) -> ReadFault
     ensures { result ≡ as_read fault }
@@ -59,7 +57,7 @@ pub fn load_article<S: Store>(
     ensures numbered { IsNumbered result }
 {
     let _ = set.count();
-    match load_bytes(alloc, store, name, MOST_BYTES) {
+    match load_bytes(alloc, store, name, ARTICLE_BYTES) {
         Err(fault) => Err(fault),
         Ok(bytes) => article_of(alloc, set, name, bytes.as_slice()),
     }

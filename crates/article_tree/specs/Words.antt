@@ -1,5 +1,6 @@
 -- What the grammar and the reading both speak of.
 use Rattle.std.specs.Prelude.{ℕ, Bool, true, false, List, [], ◌∷◌, Option, Some, None, if◌then◌else◌}
+use Rattle.jats_chars.specs.declared.limits.TheConstants as limit
 use Rattle.jats_chars.specs.Classes.{is_space}
 use Rattle.document_trees.specs.Trees.{Attribute, has_attribute}
 use Rattle.article_tree.specs.Tokens.{Token, letter, remark, instruction}
@@ -10,7 +11,7 @@ Names = List (List ℕ)
 
 -- how many elements may be open
 abbrev pub most_elements : ℕ
-most_elements = 2048
+most_elements = limit.OPEN_ELEMENTS
 
 -- the first attribute that has the name of an earlier one
 abbrev pub repeated : List Attribute → List Attribute → Option (List ℕ)

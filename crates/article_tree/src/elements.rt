@@ -19,12 +19,10 @@ use crate::values::{name_of, read_values};
 use decl_set::DeclSet;
 use document_trees::AttValues;
 use jats_chars::{Name, NameList, NoMemory};
+use jats_chars::limits::OPEN_ELEMENTS;
 use jats_fault::numbers;
 use pe_expansion::Budget;
 use std::alloc::Global;
-
-/// The most elements that may be open at once.
-const MOST_ELEMENTS: usize = 2048;
 
 /// Stops where an attribute has the name of an earlier one.
 fn test_repeated(
@@ -83,7 +81,7 @@ fn enter_element(
     requires { EndsApart held.old.items.items }
     ensures { (raws : List Raw) → Moves (unrepeated 0 (standing_of stand.now) at (state_of held.old) (record { name = name; atts = raws; closed = closed }) atts spent None) held.new result }
 {
-    if held.opens.len() >= MOST_ELEMENTS {
+    if held.opens.len() >= OPEN_ELEMENTS {
         return Err(refused_name(
             alloc,
             stand,

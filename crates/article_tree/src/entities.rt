@@ -7,13 +7,8 @@ ghost use Rattle.pe_expansion.specs.Opening.{is_open as is_open_in};
 
 use decl_set::{DeclSet, EntityDef, ValueFault};
 use jats_chars::{Name, NameList, Text};
+use jats_chars::limits::{INCLUDED_CHARACTERS, OPEN_ENTITIES};
 use std::alloc::Global;
-
-/// The most entities that may be open at once.
-const MOST_OPEN: usize = 32;
-
-/// The most characters that may be included in one article.
-const MOST_INCLUDED: u64 = 67_108_864;
 
 /// The text of an entity, and the count of included characters with it.
 #[derive(Clone, Copy, Debug, Drop)]
@@ -42,11 +37,11 @@ fn enter_text<'a>(
     if is_open(names, name) {
         return Err(ValueFault::RecursiveEntity(name.copy(alloc)?));
     }
-    if names.len() >= MOST_OPEN {
+    if names.len() >= OPEN_ENTITIES {
         return Err(ValueFault::EntityTooDeep(name.copy(alloc)?));
     }
     let len = text.len() as u64;
-    if spent > MOST_INCLUDED || len > MOST_INCLUDED - spent {
+    if spent > INCLUDED_CHARACTERS || len > INCLUDED_CHARACTERS - spent {
         return Err(ValueFault::ExpansionOver(name.copy(alloc)?));
     }
     let spent = spent + len;

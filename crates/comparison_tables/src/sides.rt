@@ -9,6 +9,7 @@ use crate::fault::TablesFault;
 use crate::held::element_at;
 use decl_set::{DeclSet, is_odd};
 use jats_chars::{ListOf, Name, NoMemory};
+use jats_chars::limits::PAIRS;
 use model_inclusion::{LiveNames, PairFault, PairSet, pairs_among};
 use position_automata::Automaton;
 use std::alloc::Global;
@@ -26,9 +27,6 @@ pub struct Side {
 
 /// Sides in order of declaration.
 pub type Sides = ListOf<Side>;
-
-/// How many pairs may be listed of all elements together.
-const MOST_PAIRS: u64 = 2_000_000;
 
 fn kept(alloc: Global, found: &PairSet) -> Result<Pairs, NoMemory>
     ensures { IfOk result (λ pairs. pairs ≡ found.now) }
@@ -94,7 +92,7 @@ pub(crate) fn sides_of(
     ensures { FindsSides first.now second.now result }
 {
     let mut sides = Sides::new(alloc);
-    let mut left = MOST_PAIRS;
+    let mut left = PAIRS;
     while let Some((name, automaton)) = element_at(first, sides.len()) {
         match side_of(alloc, first, second, name, automaton, live, left) {
             Err(fault) => return Err(fault),

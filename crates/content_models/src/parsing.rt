@@ -10,6 +10,7 @@ use crate::counting::{first_repeated, has_more_names};
 use crate::reading::{Found, Word, Words, read_group, read_name, skip};
 use crate::{Content, Particle};
 use jats_chars::{Name, NameList, NoMemory, Text};
+use jats_chars::limits::{OPEN_GROUPS, POSITIONS};
 use std::alloc::Global;
 use thiserror::Error;
 
@@ -33,12 +34,6 @@ pub enum ContentFault {
     NoMemory,
 }
 
-/// How many groups may stand inside one another.
-const DEPTH: usize = 64;
-
-/// How many names may occur.
-const POSITIONS: usize = 1024;
-
 /// Whether some front of the text has more than 64 open parentheses, where a `)` closes the last one that is open, and none
 /// where none is.
 #[tactic(auto, using(crate::proofs::Depths::depths))]
@@ -48,7 +43,7 @@ pub fn is_too_deep(text: &[char]) -> bool
     let mut open = 0;
     for c in text {
         if *c == '(' {
-            if open == DEPTH {
+            if open == OPEN_GROUPS {
                 return true;
             }
             open += 1;
@@ -127,7 +122,7 @@ fn read_children(alloc: Global, text: &[char]) -> Result<Option<Content>, NoMemo
     requires { 1 ≤ length text.now }
     ensures { IfOk result (λ o. o ≡ spec.children_of (length text.now) (drop 1 text.now)) }
 {
-    match read_group(alloc, text, 1, DEPTH - 1)? {
+    match read_group(alloc, text, 1, OPEN_GROUPS - 1)? {
         None => Ok(None),
         Some(found) => Ok(whole(text, found)),
     }

@@ -1,5 +1,6 @@
 -- What each declaration does to a set (XML 1.0, 3.2, 3.3, 4.2 and 4.7), or why it is refused.
 use Rattle.std.specs.Prelude.{ℕ, ◌+◌, List, [], ◌∷◌, ◌++◌, length, is_some, nat_lt, nat_le, Option, Some, None, bytes_eq, Bool, Result, Ok, Err, if◌then◌else◌}
+use Rattle.jats_chars.specs.declared.limits.TheConstants as limit
 use Rattle.std.specs.Option.{option_or}
 use Rattle.content_models.specs.declared.content.Content.{Content}
 use Rattle.content_models.specs.declared.content.Content.TheVariants.{Empty}
@@ -32,10 +33,10 @@ use Rattle.decl_set.specs.declared.faults.ValueFault.TheVariants as value
 
 -- how many elements a set declares at most, and how many follows its contents have together
 abbrev pub most_elements : ℕ
-most_elements = 1024
+most_elements = limit.ELEMENTS
 
 abbrev pub most_follows : ℕ
-most_follows = 16000000
+most_follows = limit.FOLLOWS
 
 -- ---- elements
 

@@ -16,14 +16,9 @@ use content_models::Content;
 use entity_catalog::Ids;
 use indexmap::IndexMap;
 use jats_chars::{ListOf, Name, NoMemory};
+use jats_chars::limits::{ELEMENTS, FOLLOWS};
 use position_automata::{Automaton, BuildFault, build};
 use std::alloc::Global;
-
-/// How many elements a set declares at most.
-const MOST_ELEMENTS: usize = 1024;
-
-/// How many follows the contents of a set have together at most.
-const MOST_FOLLOWS: u64 = 16_000_000;
 
 /// Puts a new name with what it stands for behind the others.
 fn put<T: Drop>(map: &mut IndexMap<Name, T>, name: Name, value: T) -> Result<(), NoMemory>
@@ -66,7 +61,7 @@ impl DeclSet {
         requires judged { judged declared.content ≡ Ok follows }
         ensures { Declares (spec.element_judged self.old name declared.content (Ok follows)) self.old self.new result }
     {
-        if follows > MOST_FOLLOWS - self.follows {
+        if follows > FOLLOWS - self.follows {
             return Err(DeclFault::FollowsOver(name));
         }
         match put(&mut self.elements, name, declared) {
@@ -91,7 +86,7 @@ impl DeclSet {
         if self.is_declared(&name) {
             return Err(DeclFault::DuplicateElement(name));
         }
-        if self.count() >= MOST_ELEMENTS {
+        if self.count() >= ELEMENTS {
             return Err(DeclFault::ElementsOver(name));
         }
         match judge(self.alloc, &content) {

@@ -15,13 +15,8 @@ use crate::spelled::found;
 use crate::{EntityDef, ValueFault};
 use indexmap::IndexMap;
 use jats_chars::{Name, NameList, NoMemory, Text};
+use jats_chars::limits::{INCLUDED_CHARACTERS, OPEN_ENTITIES};
 use std::alloc::Global;
-
-/// The most entities that may be open at once.
-const MOST_OPEN: usize = 32;
-
-/// The most characters that may be included in one set or article.
-const MOST_INCLUDED: u64 = 67_108_864;
 
 /// A text that waits, from a place on, until the text of an entity ends.
 #[derive(Debug, Drop)]
@@ -96,11 +91,11 @@ fn enter_text<'a>(
     if is_open(chain, frames.as_slice(), name) {
         return Err(ValueFault::RecursiveEntity(name.copy(alloc)?));
     }
-    if frames.len() >= MOST_OPEN || chain.len() >= MOST_OPEN - frames.len() {
+    if frames.len() >= OPEN_ENTITIES || chain.len() >= OPEN_ENTITIES - frames.len() {
         return Err(ValueFault::EntityTooDeep(name.copy(alloc)?));
     }
     let len = text.len() as u64;
-    if spent > MOST_INCLUDED || len > MOST_INCLUDED - spent {
+    if spent > INCLUDED_CHARACTERS || len > INCLUDED_CHARACTERS - spent {
         return Err(ValueFault::ExpansionOver(name.copy(alloc)?));
     }
     let spent = spent + len;

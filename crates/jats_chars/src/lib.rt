@@ -7,6 +7,8 @@
 
 mod classes;
 mod decoding;
+mod hashing;
+pub mod limits;
 mod list;
 mod name;
 #[cfg(test)]
@@ -16,6 +18,7 @@ mod text_declaration;
 
 pub use classes::{Ranges, is_char, is_name_char, is_name_start, is_pubid_char, is_space};
 pub use decoding::{DecodeFault, decode};
+pub use hashing::Spelled;
 pub use list::ListOf;
 pub use name::{Name, is_name, is_name_slice, is_nmtoken, is_nmtoken_slice};
 use std::alloc::{AllocError, AllocFailed};

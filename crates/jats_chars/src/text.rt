@@ -3,6 +3,7 @@
 ghost use Rattle.std.specs.Prelude.{◌≡◌, [], ◌∷◌, ◌++◌, length, slice_get, drop, vec_len, ◌≤◌, ◌-◌, IfOk, OnOk, OnErr, encode_utf8_all};
 
 use crate::NoMemory;
+use crate::hashing::feed;
 use std::alloc::Global;
 use std::default::MadeWith;
 use std::hash::{Hash, Hasher};
@@ -147,16 +148,16 @@ impl Eq for Text {
 }
 
 impl Hash for Text {
-    ghost use Rattle.std.specs.Hash as fed;
-    ghost use Rattle.std.proofs.Common.{rules};
-    ghost use Rattle.std.specs.Cmp.Rules.{hashing};
+    ghost use Rattle.std.proofs.Common.{ap};
+    ghost use Rattle.std.specs.Cmp.Lexicographic.{bytes_decides};
+    ghost use Rattle.jats_chars.specs.Hashing.{fed_text};
 
-    ghost hash_input = { fed.slice fed.char };
+    ghost hash_input = { fed_text };
 
-    ghost respects_eq = { Prim.search (hashing, rules) };
+    ghost respects_eq = { λ x y same. ap fed_text ((bytes_decides x y).0 same) };
 
     fn hash<H: Hasher>(&self, state: &mut H) {
-        self.chars.as_slice().hash(state);
+        feed(self.as_slice(), state);
     }
 }
 

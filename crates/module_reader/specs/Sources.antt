@@ -1,5 +1,6 @@
 -- What a reading reads from, and what it keeps.
 use Rattle.std.specs.Prelude.{ℕ, zero, suc, ◌+◌, List, [], ◌∷◌, ◌++◌, length, bytes_eq, Option, Some, None, Result, Ok, Err, nat_lt, nat_le, if◌then◌else◌}
+use Rattle.jats_chars.specs.declared.limits.TheConstants as limit
 use Rattle.std.specs.Map.{lookup}
 use Rattle.jats_chars.specs.Decoded.{text_of}
 use Rattle.jats_chars.specs.declared.decoding.DecodeFault.{DecodeFault}
@@ -36,13 +37,13 @@ started = record { bound = none_bound; set = none_declared; spent = 0; modules =
 
 -- how many modules a set has at most, how many bytes one of them has, and all of them together
 abbrev pub most_modules : ℕ
-most_modules = 1024
+most_modules = limit.MODULES
 
 abbrev pub most_bytes : ℕ
-most_bytes = 4194304
+most_bytes = limit.MODULE_BYTES
 
 abbrev pub most_together : ℕ
-most_together = 33554432
+most_together = limit.SET_BYTES
 
 -- the text of a file whose bytes are no more than one file may have
 abbrev pub decoded_by : {X : Type 0} → List ℕ → (List ℕ → Result X Fault) → Result (List ℕ) DecodeFault → Result X Fault

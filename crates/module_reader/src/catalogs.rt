@@ -10,11 +10,11 @@ ghost use Rattle.module_reader.specs.Sets as spec;
 
 use crate::ReadFault;
 use crate::files::text_loaded;
-use crate::loading::MOST_BYTES;
 use crate::refusals::{Stop, handed_out};
 use crate::stops::catalog_stop;
 use entity_catalog::{Catalog, read_catalog};
 use jats_chars::Text;
+use jats_chars::limits::MODULE_BYTES;
 use jats_io::Store;
 use std::alloc::Global;
 
@@ -38,7 +38,7 @@ fn load_named<S: Store>(alloc: Global, store: &mut S, name: &Text) -> Result<Cat
     ensures absences { HasCause (S.absences store.old) (S.absences store.new) (IsAbsence result) }
     ensures told { IfSome (S.holds store.old) (λ files. Reads (spec.catalog_from files (Some name.now)) result) }
 {
-    match text_loaded(alloc, store, name, MOST_BYTES) {
+    match text_loaded(alloc, store, name, MODULE_BYTES) {
         Err(stop) => Err(stop),
         Ok(text) => catalog_of_text(alloc, name, &text),
     }

@@ -22,19 +22,11 @@ use crate::state::{Modules, State};
 use crate::stops::{decode_stop, refusal, refused};
 use entity_catalog::{Catalog, Ids, ResolveFault, resolve};
 use jats_chars::{Name, NoMemory, Text, decode};
+use jats_chars::limits::{MODULES, MODULE_BYTES, SET_BYTES};
 use jats_fault::{Details, numbers};
 use jats_io::{LoadFault, Loaded, Store};
 use pe_expansion::PeText;
 use std::alloc::Global;
-
-/// The most modules of a set.
-const MOST_MODULES: usize = 1024;
-
-/// The most bytes of one file.
-pub const MOST_BYTES: usize = 4_194_304;
-
-/// The most bytes of all modules of a set together.
-const MOST_TOGETHER: u64 = 33_554_432;
 
 impl Modules {
     /// The text of the module at a place counted from 0, or None exactly where the place is the length or more.
@@ -92,7 +84,7 @@ pub fn decoded(alloc: Global, name: &Text, bytes: &[u8]) -> Result<Text, Stop>
 fn is_over(bytes: u64, more: usize) -> bool
     ensures { result ≡ nat_lt 33554432 (bytes + more) }
 {
-    bytes > MOST_TOGETHER || more as u64 > MOST_TOGETHER - bytes
+    bytes > SET_BYTES || more as u64 > SET_BYTES - bytes
 }
 
 /// Appends a module to the state, with the count of its bytes.
@@ -122,7 +114,7 @@ fn add_module(alloc: Global, state: &mut State, name: &Text, bytes: &[u8]) -> Re
     ensures load { LoadFailed result → ⊥ }
     ensures absence { IsAbsence result → ⊥ }
 {
-    if bytes.len() > MOST_BYTES {
+    if bytes.len() > MODULE_BYTES {
         return Err(refusal(alloc, numbers::MODULE_LONG, name, 0, Details::new(alloc)));
     }
     if is_over(state.bytes, bytes.len()) {
@@ -152,10 +144,10 @@ fn load_new<S: Store>(
     ensures told { IfSome (S.holds store.old) (λ files. (named : Named) → LoadsModule (spec.new_module (record { files = files; catalog = named }) state.old name.now) state.new name.now result) }
     ensures adds { IfOk result (λ k. Adds state.old state.new name.now k) }
 {
-    if state.modules.len() >= MOST_MODULES {
+    if state.modules.len() >= MODULES {
         return Err(refusal(alloc, numbers::SET_OVER, name, 0, Details::new(alloc)));
     }
-    match store.load(alloc, name, MOST_BYTES) {
+    match store.load(alloc, name, MODULE_BYTES) {
         Err(LoadFault::Failed) => Err(Stop::LoadFailed),
         Err(LoadFault::NoMemory) => Err(Stop::NoMemory),
         Ok(Loaded::Absent) => Err(refusal(

@@ -1,5 +1,6 @@
 -- The text of a reference to a parameter entity.
 use Rattle.std.specs.Prelude.{ℕ, ◌+◌, List, length, bytes_eq, Option, Some, None, Result, Ok, Err, Bool, nat_lt, if◌then◌else◌}
+use Rattle.jats_chars.specs.declared.limits.TheConstants as limit
 use Rattle.std.specs.List.{list_any}
 use Rattle.pe_expansion.specs.Bound.{Bound, text_bound, text_in}
 use Rattle.pe_expansion.specs.declared.bindings.PeText.{PeText}
@@ -12,10 +13,10 @@ is_open names name = list_any (λ n. bytes_eq n name) names
 
 -- how many names may be open, and how many characters may be included
 abbrev pub most_open : ℕ
-most_open = 32
+most_open = limit.OPEN_ENTITIES
 
 abbrev pub most_included : ℕ
-most_included = 67108864
+most_included = limit.INCLUDED_CHARACTERS
 
 -- the text, and the count of included characters with it
 abbrev pub counted : List ℕ → ℕ → List ℕ → Result (List ℕ × ℕ) PeFault

@@ -6,8 +6,8 @@ ghost use Rattle.pe_expansion.specs.Bound.{IsOuter, IsPlaceOf, given_text, with_
 ghost use Rattle.pe_expansion.specs.Binds.{Binds};
 
 use entity_catalog::Ids;
-use indexmap::{Equivalent, IndexMap};
-use jats_chars::{Name, NoMemory, Text};
+use indexmap::IndexMap;
+use jats_chars::{Name, NoMemory, Spelled, Text};
 use std::alloc::Global;
 use std::marker::Model;
 
@@ -38,29 +38,6 @@ impl Model for Bindings {
     ghost Value = { Bound };
 
     ghost view = { bound_by };
-}
-
-/// A name as it stands in a text.
-#[derive(Clone, Copy, PartialEq, Eq, Hash)]
-struct Spelled<'a> {
-    name: &'a [char],
-}
-
-impl Equivalent<Name> for Spelled<'_> {
-    ghost use Rattle.std.specs.Prelude.{bytes_eq};
-    ghost use Rattle.std.specs.Cmp.Lexicographic.{nat_list_eq_equiv};
-    ghost use Rattle.std.proofs.Common.{rules};
-    ghost use Rattle.std.specs.Cmp.Rules.{hashing};
-
-    ghost equivalent = { λ q k. bytes_eq q.name.now k };
-
-    ghost respects_hash = { Prim.search (hashing, rules) };
-
-    ghost respects_eq = { λ q. nat_list_eq_equiv.congr q.name.now };
-
-    fn equivalent(&self, key: &Name) -> bool {
-        self.name == key.text().as_slice()
-    }
 }
 
 /// Gives an outer entity its text.

@@ -5,9 +5,10 @@ ghost use Rattle.jats_chars.specs.Names.{is_name};
 ghost use Rattle.pe_expansion.specs.Opening as spec;
 ghost use Rattle.pe_expansion.specs.Opens.{Opens};
 
-use crate::stack::{MOST_OPEN, is_in_chain, load, name_of};
+use crate::stack::{is_in_chain, load, name_of};
 use crate::{Bindings, PeFault};
 use jats_chars::NameList;
+use jats_chars::limits::OPEN_ENTITIES;
 use std::alloc::Global;
 
 /// An entity that may open: its place among the bindings, counted from 0, and the count of included characters with its
@@ -41,7 +42,7 @@ pub fn opening(
             if is_in_chain(chain, name) {
                 return Err(PeFault::RecursivePe(name.copy(alloc)?));
             }
-            if chain.len() >= MOST_OPEN {
+            if chain.len() >= OPEN_ENTITIES {
                 return Err(PeFault::EntityTooDeep(name.copy(alloc)?));
             }
             match load(alloc, number, name, entity, spent) {

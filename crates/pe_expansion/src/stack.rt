@@ -19,13 +19,8 @@ ghost use Rattle.pe_expansion.specs.declared.pieces.Manner.TheVariants.{Body};
 use crate::pieces::{Kind, Manner, Piece, first_piece, plain_len};
 use crate::{Bindings, PeFault, PeText};
 use jats_chars::{Name, NameList, NoMemory, Text};
+use jats_chars::limits::{INCLUDED_CHARACTERS, OPEN_ENTITIES};
 use std::alloc::Global;
-
-/// The most names that may be open at once.
-pub(crate) const MOST_OPEN: usize = 32;
-
-/// The most characters that may be included in one set or article.
-const MOST_INCLUDED: u64 = 67_108_864;
 
 /// A text that waits, from a place on, until the text of a name ends, which stands in what is written from `start` on;
 /// the number of that name; and whether the text that waits breaks nesting so far.
@@ -116,7 +111,7 @@ pub(crate) fn load<'a>(
         None => Err(PeFault::NotLoaded(name.copy(alloc)?)),
         Some(text) => {
             let len = text.len() as u64;
-            if spent > MOST_INCLUDED || len > MOST_INCLUDED - spent {
+            if spent > INCLUDED_CHARACTERS || len > INCLUDED_CHARACTERS - spent {
                 Err(PeFault::ExpansionOver(name.copy(alloc)?))
             } else {
                 Ok(Entered {
@@ -152,7 +147,7 @@ fn enter<'a>(
             if is_open(chain, frames.as_slice(), name) {
                 return Err(PeFault::RecursivePe(name.copy(alloc)?));
             }
-            if frames.len() >= MOST_OPEN || chain.len() >= MOST_OPEN - frames.len() {
+            if frames.len() >= OPEN_ENTITIES || chain.len() >= OPEN_ENTITIES - frames.len() {
                 return Err(PeFault::EntityTooDeep(name.copy(alloc)?));
             }
             load(alloc, number, name, entity, spent)

@@ -16,14 +16,12 @@ use crate::useful::useful_flags;
 use crate::{BrokenList, Report, ReportFault};
 use decl_set::{BrokenDecl, Cause, DeclSet};
 use jats_chars::{ListOf, Name, NoMemory};
+use jats_chars::limits::PAIRS;
 use least_trees::least;
 use model_inclusion::{LiveNames, PairFault};
 use position_automata::Automaton;
 use std::alloc::Global;
 use tree_costs::Least;
-
-/// How many pairs of states may be listed of all elements together.
-const MOST_PAIRS: u64 = 2_000_000;
 
 /// The name and the automaton of the element at a place.
 fn named_at(set: &DeclSet, e: usize) -> Option<(&Name, &Automaton)>
@@ -173,7 +171,7 @@ fn gather(
     requires flags { TellUseful first.now root.now flags.now }
     ensures { Reports first.now second.now root.now result }
 {
-    let mut left = MOST_PAIRS;
+    let mut left = PAIRS;
     let mut useful: u64 = 0;
     let mut differs = ListOf::new(alloc);
     for e in 0..first.count() {

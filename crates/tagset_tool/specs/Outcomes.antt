@@ -1,5 +1,6 @@
 -- Outcomes: which status and which bytes may be answered.
 use Rattle.std.specs.Prelude.{◌≡◌, ℕ, Bool, true, false, List, length, Result, Ok, Err, nat_lt}
+use Rattle.jats_chars.specs.declared.limits.TheConstants as limit
 use Rattle.jats_fault.specs.Lines.{line_of}
 use Rattle.jats_fault.specs.declared.fault.Fault.{Fault}
 use Rattle.tagset_tool.specs.Refusals.{output_over}
@@ -23,7 +24,7 @@ after (Ok x) next status bytes = next x status bytes
 
 -- how many bytes an output has at most
 abbrev pub most_written : ℕ
-most_written = 268435456
+most_written = limit.OUTPUT_BYTES
 
 abbrev pub fitting_by : Bool → ℕ → List ℕ → Outcome
 fitting_by true wanted text status bytes = refusing output_over status bytes

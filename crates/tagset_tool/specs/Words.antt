@@ -1,5 +1,6 @@
 -- What words ask for.
 use Rattle.std.specs.Prelude.{ℕ, ◌+◌, Bool, ◌==◌, ◌&&◌, List, [], length, Option, Some, None, Result, Ok, bytes_eq, codes, is_some, nat_le, option_and_then, slice_index_or, if◌then◌else◌}
+use Rattle.jats_chars.specs.declared.limits.TheConstants as limit
 use Rattle.std.specs.Option.{option_map_or}
 use Rattle.dtd_scanner.specs.Walk.{◌>>=◌}
 use Rattle.jats_fault.specs.declared.fault.Fault.{Fault}
@@ -38,7 +39,7 @@ set_words words k = record { catalog = catalog_word (word words k); entry = word
 
 -- a cap: a number without leading zeros, of at most 100,000
 abbrev pub cap_in : List ℕ → Option ℕ
-cap_in word = option_and_then (λ n. if nat_le n 100000 then Some n else None) (short_number_in word)
+cap_in word = option_and_then (λ n. if nat_le n limit.CAP then Some n else None) (short_number_in word)
 
 abbrev pub cap_or_0 : List ℕ → ℕ
 cap_or_0 word = option_map_or (λ n. n) (cap_in word) 0

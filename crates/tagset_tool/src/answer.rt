@@ -10,6 +10,7 @@ ghost use Rattle.tagset_tool.specs.Runs.{AnswersAbsence, Says, StopsAs};
 
 use crate::refusals::output_over;
 use jats_chars::NoMemory;
+use jats_chars::limits::OUTPUT_BYTES;
 use jats_fault::{Fault, line};
 use module_reader::ReadFault;
 use std::alloc::Global;
@@ -27,9 +28,6 @@ pub enum Stop {
     LoadFailed,
     NoMemory,
 }
-
-/// The most bytes of an output.
-pub const MOST_WRITTEN: u64 = 268_435_456;
 
 /// The line of a refusal of the table.
 pub fn refused(alloc: Global, refusal: &Fault) -> Result<Answer, NoMemory>
@@ -49,7 +47,7 @@ pub fn fitting(alloc: Global, status: u8, bytes: Vec<u8>) -> Result<Answer, NoMe
     ensures fits { IfOk result (λ a. outcome.fitting status bytes.items a.status a.bytes.items) }
     ensures says { IfOk result (λ a. Says a.status a.bytes.items) }
 {
-    if bytes.len() as u64 > MOST_WRITTEN {
+    if bytes.len() as u64 > OUTPUT_BYTES {
         let refusal = output_over(alloc)?;
         refused(alloc, &refusal)
     } else {

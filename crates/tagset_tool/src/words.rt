@@ -10,6 +10,7 @@ ghost use Rattle.tagset_tool.specs.Words as spec;
 use bound_checker::number;
 use decl_set::DeclSet;
 use jats_chars::Text;
+use jats_chars::limits::CAP;
 use jats_io::Store;
 use module_reader::{ReadFault, load_catalog, read_set};
 use std::alloc::Global;
@@ -71,7 +72,7 @@ fn cap_of(word: &Text) -> Option<u32>
 {
     match number(word.as_slice()) {
         None => None,
-        Some(n) => { if n <= 100_000 { Some(n) } else { None } }
+        Some(n) => { if n <= CAP { Some(n) } else { None } }
     }
 }
 

@@ -1,5 +1,6 @@
 -- verify: whether the bounds of a certificate hold for two sets.
 use Rattle.std.specs.Prelude.{ℕ, ◌&&◌, List, [], ◌∷◌, ◌++◌, Option, Some, None, Result, Ok, Err, codes, encode_utf8_all, if◌then◌else◌, nat_le, option_map, slice_get}
+use Rattle.jats_chars.specs.declared.limits.TheConstants as limit
 use Rattle.std.specs.Fmt.{decimal}
 use Rattle.std.specs.Option.{option_map_or}
 use Rattle.jats_fault.specs.declared.fault.Fault.{Fault}
@@ -63,7 +64,7 @@ certified first second name (Ok tables) = checked first tables (first_broken fir
 
 -- how many bytes a certificate has at most
 abbrev pub most_certified : ℕ
-most_certified = 268435456
+most_certified = limit.CERTIFICATE_BYTES
 
 -- over two sets
 abbrev pub verifies_by : Files → List ℕ → Declarations → Declarations → Outcome

@@ -13,7 +13,7 @@ ghost use Rattle.tagset_tool.specs.Words as asked;
 ghost use Rattle.tagset_tool.specs.commands.Compare as spec;
 ghost use Rattle.tagset_tool.specs.commands.Least.{least_line};
 
-use crate::answer::{Answer, MOST_WRITTEN, Stop, fitting, refused, stop_of};
+use crate::answer::{Answer, Stop, fitting, refused, stop_of};
 use crate::refusals::{output_over, pairs_over, root_undeclared};
 use crate::shown::shown;
 use crate::words::{cap_or_0, read_both};
@@ -21,6 +21,7 @@ use article_tree::{Node, write_article};
 use bound_checker::{Cost, Tables, print_cert};
 use decl_set::{BrokenDecl, Cause, DeclSet};
 use jats_chars::{Name, NoMemory, Text};
+use jats_chars::limits::OUTPUT_BYTES;
 use jats_io::Store;
 use std::alloc::Global;
 use tagset_compare::{CompareFault, Verdict, bound_of, compare};
@@ -240,7 +241,7 @@ fn compare_from(
     let _ = first.count();
     match Name::from_text(alloc, root)? {
         None => Err(CompareFault::RootUndeclared),
-        Some(name) => compare(alloc, first, second, &name, cap, MOST_WRITTEN),
+        Some(name) => compare(alloc, first, second, &name, cap, OUTPUT_BYTES),
     }
 }
 

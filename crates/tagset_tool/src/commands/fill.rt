@@ -8,7 +8,7 @@ ghost use Rattle.tagset_tool.specs.Runs.{IsLoadFailed, AnswersAbsence, Says};
 ghost use Rattle.tagset_tool.specs.Words as asked;
 ghost use Rattle.tagset_tool.specs.commands.Fill as spec;
 
-use crate::answer::{Answer, MOST_WRITTEN, Stop, fitting, refused, stop_of};
+use crate::answer::{Answer, Stop, fitting, refused, stop_of};
 use crate::refusals::output_over;
 use crate::words::read_words;
 use article_files::load_article;
@@ -16,6 +16,7 @@ use article_tree::{Node, write_article, written_size};
 use article_validator::fill;
 use decl_set::DeclSet;
 use jats_chars::{NoMemory, Text};
+use jats_chars::limits::OUTPUT_BYTES;
 use jats_io::Store;
 use std::alloc::Global;
 
@@ -33,7 +34,7 @@ fn written(alloc: Global, node: &Node) -> Result<Answer, NoMemory>
     ensures fits { IfOk result (λ a. fits 0 (encode_utf8_all (write node.now) ++ 10 ∷ []) a.status a.bytes.items) }
     ensures says { IfOk result (λ a. Says a.status a.bytes.items) }
 {
-    if written_size(alloc, node)? >= MOST_WRITTEN {
+    if written_size(alloc, node)? >= OUTPUT_BYTES {
         let refusal = output_over(alloc)?;
         refused(alloc, &refusal)
     } else {

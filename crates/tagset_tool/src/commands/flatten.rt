@@ -8,12 +8,13 @@ ghost use Rattle.tagset_tool.specs.Runs.{IsLoadFailed, AnswersAbsence, Says};
 ghost use Rattle.tagset_tool.specs.Words as asked;
 ghost use Rattle.tagset_tool.specs.commands.Flatten.{flattens};
 
-use crate::answer::{Answer, MOST_WRITTEN, Stop, refused, stop_of};
+use crate::answer::{Answer, Stop, refused, stop_of};
 use crate::refusals::output_over;
 use crate::words::read_words;
 use decl_set::DeclSet;
 use dtd_flattener::{flat_size, flatten};
 use jats_chars::{NoMemory, Text};
+use jats_chars::limits::OUTPUT_BYTES;
 use jats_io::Store;
 use std::alloc::Global;
 
@@ -22,7 +23,7 @@ fn flattened(alloc: Global, set: &DeclSet) -> Result<Answer, NoMemory>
     ensures fits { IfOk result (λ a. fitting 0 (encode_utf8_all (flat_text set.now)) a.status a.bytes.items) }
     ensures says { IfOk result (λ a. Says a.status a.bytes.items) }
 {
-    if flat_size(alloc, set)? > MOST_WRITTEN {
+    if flat_size(alloc, set)? > OUTPUT_BYTES {
         let refusal = output_over(alloc)?;
         refused(alloc, &refusal)
     } else {

@@ -8,12 +8,13 @@ ghost use Rattle.tagset_tool.specs.Runs.{IsLoadFailed, AnswersAbsence, Says};
 ghost use Rattle.tagset_tool.specs.Words as asked;
 ghost use Rattle.tagset_tool.specs.commands.Least as spec;
 
-use crate::answer::{Answer, MOST_WRITTEN, Stop, fitting, refused, stop_of};
+use crate::answer::{Answer, Stop, fitting, refused, stop_of};
 use crate::refusals::{output_over, root_undeclared};
 use crate::words::{cap_or_0, read_words};
 use article_tree::{Node, write_article};
 use decl_set::DeclSet;
 use jats_chars::{Name, NoMemory, Text};
+use jats_chars::limits::OUTPUT_BYTES;
 use jats_io::Store;
 use least_trees::least;
 use separating_article::{BuildOver, least_article};
@@ -47,7 +48,7 @@ fn built(
     ensures answer { IfOk result (λ a. spec.sized set.now least.now root.now size true a.status a.bytes.items) }
     ensures says { IfOk result (λ a. Says a.status a.bytes.items) }
 {
-    match least_article(alloc, set, root, least, MOST_WRITTEN) {
+    match least_article(alloc, set, root, least, OUTPUT_BYTES) {
         Ok(node) => {
             let bytes = least_text(alloc, size, &node)?;
             fitting(alloc, 0, bytes)

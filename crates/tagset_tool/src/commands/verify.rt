@@ -17,13 +17,11 @@ use crate::words::read_both;
 use bound_checker::{Broken, CertFault, Cost, Tables, check_tables, read_cert};
 use decl_set::DeclSet;
 use jats_chars::{NoMemory, Text};
+use jats_chars::limits::CERTIFICATE_BYTES;
 use jats_io::Store;
 use module_reader::load_text;
 use std::alloc::Global;
 use tagset_compare::bound_of;
-
-/// The most bytes of a certificate.
-const MOST_CERTIFIED: usize = 268_435_456;
 
 fn cost_word(alloc: Global, cost: Cost) -> Result<String, NoMemory>
     ensures { IfOk result (λ s. string_bytes s ≡ cost_text cost) }
@@ -182,7 +180,7 @@ fn verified_over<S: Store>(
     ensures status { IfOk result (λ a. a.status ≤ 2) }
     ensures told { IfSome (S.holds store.old) (λ files. IfOk result (λ a. spec.verifies_by files name.now first.now second.now a.status a.bytes.items)) }
 {
-    let text = match load_text(alloc, store, name, MOST_CERTIFIED) {
+    let text = match load_text(alloc, store, name, CERTIFICATE_BYTES) {
         Ok(text) => text,
         Err(fault) => return stop_of(alloc, &fault),
     };

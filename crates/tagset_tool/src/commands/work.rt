@@ -11,20 +11,18 @@ ghost use Rattle.tagset_tool.specs.Runs.{IsLoadFailed, AnswersAbsence, Says};
 ghost use Rattle.tagset_tool.specs.Words as asked;
 ghost use Rattle.tagset_tool.specs.commands.Work as spec;
 
-use crate::answer::{Answer, MOST_WRITTEN, Stop};
+use crate::answer::{Answer, Stop};
 use crate::words::count_or_1;
 use bound_checker::Tables;
 use decl_set::DeclSet;
 use document_trees::{Node, elements};
 use entity_catalog::Catalog;
 use jats_chars::{Name, NoMemory, Text};
+use jats_chars::limits::{CAP, OUTPUT_BYTES};
 use jats_io::SoundStore;
 use module_reader::read_set;
 use std::alloc::Global;
 use tagset_compare::{Verdict, compare};
-
-/// The most elements of the least article that is sought.
-const MOST_ELEMENTS: u32 = 100_000;
 
 /// The declaration of the k-th of so many elements, from 0: in it stand the next, and the one after that or nothing; the last
 /// has its own content.
@@ -68,7 +66,7 @@ fn compared(alloc: Global, first: &DeclSet, second: &DeclSet) -> Result<Verdict,
     let text = Text::from_str(alloc, "e0")?;
     match Name::from_text(alloc, &text)? {
         None => Err(NoMemory),
-        Some(root) => match compare(alloc, first, second, &root, MOST_ELEMENTS, MOST_WRITTEN) {
+        Some(root) => match compare(alloc, first, second, &root, CAP, OUTPUT_BYTES) {
             Ok(verdict) => Ok(verdict),
             Err(_) => Err(NoMemory),
         },
