@@ -34,6 +34,21 @@ def nested_names(names, calls):
     return text + f"%{names[0]};\n"
 
 
+# Two ways on at each of sixteen places, which leave a hasher that multiplies and folds with a fixed seed in one state.
+SAME = """
+9OOp 10000 hhZA bfa14, K9KP 10000 5yQ7 b79a4, 4mbm 10000 ldtm 59cc6, AF5y 10000 0f31 dcc11, sZxn 10000 Y7aI cfdef, eath 10000 cf7m 2658a,
+Baup 10000 aydN 4abd3, F-la 10000 Xu1v 55190, JV4J 10000 6I07 97470, 7r_S 10000 ICI8 23494, tqWB 10000 gyST c30a6, _ram 10000 _2bp b320a,
+qRPU 10000 Jg1Y 156fd, QUvx 10000 oqPL d0736, 57vx 10000 2UnH 22f50, _4sL 10000 AtdN 15ca6
+"""
+
+
+def same_names(count):
+    """Names of 81 characters that such a hasher cannot tell apart."""
+    ways = [part.split() for part in SAME.split(",")]
+    pairs = [(one + chr(int(c, 16)), other + chr(int(d, 16))) for one, c, other, d in ways]
+    return ["a" + "".join(pair[k >> place & 1] for place, pair in enumerate(pairs)) for k in range(count)]
+
+
 def texts():
     """The title and the entry of each bomb of `check`."""
     for where, form in (("between declarations", "%p{};"), ("in a body", "<!ELEMENT a (%p{};)>"), ("in an entity value", '<!ENTITY a "%p{};">'),
@@ -53,6 +68,10 @@ def texts():
     yield "1,024 elements of 124 names under a star", "".join(f"<!ELEMENT e{k} (" + "|".join(f"e{i}" for i in range(124)) + ")*>" for k in range(1_024))
     yield "100,000 attributes of one element", "<!ATTLIST a " + " ".join(f"k{k} CDATA #IMPLIED" for k in range(100_000)) + ">"
     yield "100,000 declarations of one attribute", "<!ATTLIST a k CDATA #IMPLIED>" * 100_000
+    for kind, names in (("ordinary", [f"a{k:080}" for k in range(28_000)]), ("colliding", same_names(28_000))):
+        yield f"28,000 general entities of {kind} names", "".join(f'<!ENTITY {name} "x">' for name in names)
+        yield f"28,000 tokens of {kind} names", "<!ATTLIST a k (" + "|".join(names) + ") #IMPLIED>"
+        yield f"28,000 attributes of {kind} names", "<!ATTLIST a " + " ".join(f"{name} CDATA #IMPLIED" for name in names) + ">"
     yield "150,000 general entities", "".join(f'<!ENTITY e{k} "x">' for k in range(150_000))
 
 
