@@ -42,7 +42,7 @@ fn notations_size(alloc: Global, set: &DeclSet) -> Result<u64, NoMemory>
     ensures { IfOk result (λ n. n ≡ capped (size_of (concat (map (λ n. spec.written (NotationDecl, spec.notation_body n)) set.now.notations)))) }
 {
     let mut total: u64 = 0;
-    for at in 0..usize::MAX {
+    for at in 0..set.notation_count() {
         match set.notation_at(at) {
             None => return Ok(total),
             Some((name, ids)) => {
@@ -51,7 +51,7 @@ fn notations_size(alloc: Global, set: &DeclSet) -> Result<u64, NoMemory>
             }
         }
     }
-    Err(NoMemory)
+    Ok(total)
 }
 
 /// The bytes of the line of a general entity.
@@ -68,7 +68,7 @@ fn entities_size(alloc: Global, set: &DeclSet) -> Result<u64, NoMemory>
     ensures { IfOk result (λ n. n ≡ capped (size_of (concat (map (λ e. spec.written (EntityDecl, spec.entity_body e)) set.now.entities)))) }
 {
     let mut total: u64 = 0;
-    for at in 0..usize::MAX {
+    for at in 0..set.entity_count() {
         match set.entity_at(at) {
             None => return Ok(total),
             Some((name, def)) => {
@@ -77,7 +77,7 @@ fn entities_size(alloc: Global, set: &DeclSet) -> Result<u64, NoMemory>
             }
         }
     }
-    Err(NoMemory)
+    Ok(total)
 }
 
 /// The bytes of the line of an element that is declared.
@@ -155,7 +155,7 @@ fn lists_size(alloc: Global, set: &DeclSet) -> Result<u64, NoMemory>
     ensures { IfOk result (λ n. n ≡ capped (size_of (concat (map (λ l. concat (map (λ e. spec.written (AttlistDecl, spec.attribute_body l.0 e)) l.1)) set.now.lists)))) }
 {
     let mut total: u64 = 0;
-    for at in 0..usize::MAX {
+    for at in 0..set.list_count() {
         match set.list_at(at) {
             None => return Ok(total),
             Some((element, list)) => {
@@ -164,7 +164,7 @@ fn lists_size(alloc: Global, set: &DeclSet) -> Result<u64, NoMemory>
             }
         }
     }
-    Err(NoMemory)
+    Ok(total)
 }
 
 /// How many bytes the flat text of a set takes, or the last u64 where there are more. It is not made for that: no more than

@@ -64,26 +64,26 @@ fn put_entity_line(
 fn put_notations(alloc: Global, out: &mut String, set: &DeclSet) -> Result<(), NoMemory>
     ensures { OnOk result (string_bytes out.new ≡ string_bytes out.old ++ encode_utf8_all (concat (map (λ n. spec.written (NotationDecl, spec.notation_body n)) set.now.notations))) }
 {
-    for at in 0..usize::MAX {
+    for at in 0..set.notation_count() {
         match set.notation_at(at) {
             None => return Ok(()),
             Some((name, ids)) => put_notation_line(alloc, out, name, ids)?,
         }
     }
-    Err(NoMemory)
+    Ok(())
 }
 
 /// Appends a line for each general entity.
 fn put_entities(alloc: Global, out: &mut String, set: &DeclSet) -> Result<(), NoMemory>
     ensures { OnOk result (string_bytes out.new ≡ string_bytes out.old ++ encode_utf8_all (concat (map (λ e. spec.written (EntityDecl, spec.entity_body e)) set.now.entities))) }
 {
-    for at in 0..usize::MAX {
+    for at in 0..set.entity_count() {
         match set.entity_at(at) {
             None => return Ok(()),
             Some((name, def)) => put_entity_line(alloc, out, name, def)?,
         }
     }
-    Err(NoMemory)
+    Ok(())
 }
 
 /// Appends the line of an element that is declared.
@@ -167,13 +167,13 @@ fn put_attributes(
 fn put_lists(alloc: Global, out: &mut String, set: &DeclSet) -> Result<(), NoMemory>
     ensures { OnOk result (string_bytes out.new ≡ string_bytes out.old ++ encode_utf8_all (concat (map (λ l. concat (map (λ e. spec.written (AttlistDecl, spec.attribute_body l.0 e)) l.1)) set.now.lists))) }
 {
-    for at in 0..usize::MAX {
+    for at in 0..set.list_count() {
         match set.list_at(at) {
             None => return Ok(()),
             Some((element, list)) => put_attributes(alloc, out, element, list)?,
         }
     }
-    Err(NoMemory)
+    Ok(())
 }
 
 /// The bytes of the flat text, written line by line.
