@@ -6,8 +6,8 @@ ghost use Rattle.decl_set.specs.Values as spec;
 ghost use Rattle.pe_expansion.specs.Opening.{is_open as is_open_in};
 
 use decl_set::{DeclSet, EntityDef, ValueFault};
-use jats_chars::{Name, NameList, Text};
 use jats_chars::limits::{INCLUDED_CHARACTERS, OPEN_ENTITIES};
+use jats_chars::{Name, NameList, Text};
 use std::alloc::Global;
 
 /// The text of an entity, and the count of included characters with it.

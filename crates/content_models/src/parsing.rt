@@ -9,8 +9,8 @@ ghost use Rattle.content_models.specs.Given.{GivesNames, found_in};
 use crate::counting::{first_repeated, has_more_names};
 use crate::reading::{Found, Word, Words, read_group, read_name, skip};
 use crate::{Content, Particle};
-use jats_chars::{Name, NameList, NoMemory, Text};
 use jats_chars::limits::{OPEN_GROUPS, POSITIONS};
+use jats_chars::{Name, NameList, NoMemory, Text};
 use std::alloc::Global;
 use thiserror::Error;
 

@@ -15,8 +15,8 @@ use crate::{DeclFault, DeclSet, EntityDef};
 use content_models::Content;
 use entity_catalog::Ids;
 use indexmap::IndexMap;
-use jats_chars::{ListOf, Name, NoMemory};
 use jats_chars::limits::{ELEMENTS, FOLLOWS};
+use jats_chars::{ListOf, Name, NoMemory};
 use position_automata::{Automaton, BuildFault, build};
 use std::alloc::Global;
 

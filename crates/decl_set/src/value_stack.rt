@@ -14,8 +14,8 @@ use crate::pieces::{Kind, Piece, value_piece};
 use crate::spelled::found;
 use crate::{EntityDef, ValueFault};
 use indexmap::IndexMap;
-use jats_chars::{Name, NameList, NoMemory, Text};
 use jats_chars::limits::{INCLUDED_CHARACTERS, OPEN_ENTITIES};
+use jats_chars::{Name, NameList, NoMemory, Text};
 use std::alloc::Global;
 
 /// A text that waits, from a place on, until the text of an entity ends.

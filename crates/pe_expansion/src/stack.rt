@@ -18,8 +18,8 @@ ghost use Rattle.pe_expansion.specs.declared.pieces.Manner.TheVariants.{Body};
 
 use crate::pieces::{Kind, Manner, Piece, first_piece, plain_len};
 use crate::{Bindings, PeFault, PeText};
-use jats_chars::{Name, NameList, NoMemory, Text};
 use jats_chars::limits::{INCLUDED_CHARACTERS, OPEN_ENTITIES};
+use jats_chars::{Name, NameList, NoMemory, Text};
 use std::alloc::Global;
 
 /// A text that waits, from a place on, until the text of a name ends, which stands in what is written from `start` on;

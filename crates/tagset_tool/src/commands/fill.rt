@@ -15,8 +15,8 @@ use article_files::load_article;
 use article_tree::{Node, write_article, written_size};
 use article_validator::fill;
 use decl_set::DeclSet;
-use jats_chars::{NoMemory, Text};
 use jats_chars::limits::OUTPUT_BYTES;
+use jats_chars::{NoMemory, Text};
 use jats_io::Store;
 use std::alloc::Global;
 

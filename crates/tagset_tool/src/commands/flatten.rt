@@ -13,8 +13,8 @@ use crate::refusals::output_over;
 use crate::words::read_words;
 use decl_set::DeclSet;
 use dtd_flattener::{flat_size, flatten};
-use jats_chars::{NoMemory, Text};
 use jats_chars::limits::OUTPUT_BYTES;
+use jats_chars::{NoMemory, Text};
 use jats_io::Store;
 use std::alloc::Global;
 
