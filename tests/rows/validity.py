@@ -101,6 +101,8 @@ LINKS = [
     ("names of a default in order", '<!ELEMENT r ANY><!ATTLIST r j IDREFS "b a" k IDREF "c">', "<r/>", "1 r idref j b", "1 r idref j a", "1 r idref k c"),
     ("specified links come before defaults", '<!ELEMENT r ANY><!ATTLIST r j IDREF "a" k IDREF #IMPLIED>', '<r k="b"/>', "1 r idref k b", "1 r idref j a"),
     ("a required attribute", "<!ELEMENT r ANY><!ATTLIST r a CDATA #REQUIRED b CDATA #REQUIRED>", "<r/>", "1 r missing a", "1 r missing b"),
+    ("nine attributes of ten that are required", "<!ELEMENT r ANY><!ATTLIST r " + " ".join(f"{c} CDATA #REQUIRED" for c in "abcdefghij") + ">",
+     "<r " + " ".join(f'{c}=""' for c in "abcdefghi") + "/>", "1 r missing j"),
     ("a required attribute that is there", "<!ELEMENT r ANY><!ATTLIST r a CDATA #REQUIRED b CDATA #REQUIRED>", '<r b=""/>', "1 r missing a"),
     ("all that may be wrong in one element", MANY, '<r><e i="p"/><e i="p" w="" v="z" j="p q" k="u i">t</e></r>',
      "2 e content", "2 e missing m", "2 e missing o", "2 e idref d gone", "2 e entity f none",

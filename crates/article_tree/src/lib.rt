@@ -30,8 +30,6 @@ mod sizing;
 mod steps;
 mod stops;
 mod taking;
-#[cfg(test)]
-mod tests;
 mod token;
 mod tokens;
 mod values;

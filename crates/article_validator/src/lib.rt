@@ -22,8 +22,6 @@ mod laws;
 mod link_causes;
 mod links;
 mod specified;
-#[cfg(test)]
-mod tests;
 mod walk;
 mod words;
 

@@ -19,8 +19,6 @@ mod odd;
 mod parse;
 mod raw;
 mod sample_laws;
-#[cfg(test)]
-mod tests;
 mod value;
 
 pub use laws::attlist_law;

@@ -14,8 +14,6 @@ mod classes;
 mod covering;
 mod laws;
 mod spacing;
-#[cfg(test)]
-mod tests;
 mod types;
 
 pub use classes::{ValueClass, class_of, in_class, sample};

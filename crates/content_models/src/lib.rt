@@ -22,8 +22,6 @@ mod laws;
 mod parsing;
 mod printing;
 mod reading;
-#[cfg(test)]
-mod tests;
 
 pub use content::{Content, Occurs, Particle, ParticleList, TextKind, text_kind};
 pub use laws::{derivation_law, parse_law, print_law};

@@ -12,8 +12,6 @@
 mod building;
 mod laws;
 mod nodes;
-#[cfg(test)]
-mod tests;
 mod walk;
 
 pub use laws::{alone_law, items_law, nodes_law};

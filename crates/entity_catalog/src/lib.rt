@@ -31,6 +31,3 @@ pub use laws::{first_lines_count, joined_names_stay_inside, lines_are_spelled};
 pub use paths::join;
 pub use public_ids::collapse_public;
 pub use resolution::resolve;
-
-#[cfg(test)]
-mod tests;

@@ -11,8 +11,6 @@ mod hashing;
 pub mod limits;
 mod list;
 mod name;
-#[cfg(test)]
-mod tests;
 mod text;
 mod text_declaration;
 

@@ -11,8 +11,6 @@ mod laws;
 mod lines;
 pub mod numbers;
 mod table;
-#[cfg(test)]
-mod tests;
 
 pub use fault::{Details, Fault, Place};
 pub use laws::{distinct_law, number_law};

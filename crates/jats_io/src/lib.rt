@@ -23,10 +23,8 @@ mod sound_sink;
 mod sound_store;
 mod std_sink;
 mod store;
-#[cfg(test)]
-mod tests;
 
-pub use folder_store::FolderStore;
+pub use folder_store::{FolderStore, read_bytes};
 pub use laws::{put_law, rose_law};
 pub use memory_sink::MemorySink;
 pub use memory_store::MemoryStore;

@@ -18,8 +18,6 @@ mod reach;
 mod rows;
 mod set;
 mod side;
-#[cfg(test)]
-mod tests;
 
 pub use fault::PairFault;
 pub use laws::{inclusion_law, pairs_law};

@@ -20,8 +20,6 @@ mod frames;
 mod kinds;
 mod laws;
 mod loading;
-#[cfg(test)]
-mod loading_tests;
 mod machine;
 mod openings;
 mod passing;

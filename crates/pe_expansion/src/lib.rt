@@ -24,8 +24,6 @@ mod openings;
 mod pausing;
 mod pieces;
 mod stack;
-#[cfg(test)]
-mod tests;
 
 pub use bindings::{Bindings, PeText};
 pub use expansions::{literal, literal_in, plain_body, plain_body_in};

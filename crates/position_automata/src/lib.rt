@@ -20,8 +20,6 @@ mod names;
 mod owed;
 mod parts;
 mod rows;
-#[cfg(test)]
-mod tests;
 mod walk;
 
 pub use automaton::{Automaton, build};

@@ -20,8 +20,6 @@ mod opening;
 mod required;
 mod separated;
 mod spending;
-#[cfg(test)]
-mod tests;
 
 pub use fault::BuildOver;
 pub use laws::{least_law, separating_law, size_law};

@@ -14,7 +14,6 @@ mod counts;
 mod laws;
 mod refusals;
 mod reports;
-mod rows;
 mod shown;
 mod sound;
 mod top;

@@ -12,8 +12,6 @@
 mod cost;
 mod laws;
 mod least;
-#[cfg(test)]
-mod tests;
 
 pub use cost::{Cost, CostList, at_most, sum};
 pub use laws::{costs_law, graph_law, least_law, numbered_law};

@@ -1,6 +1,6 @@
 //! The rules at examples.
 
-use crate::{
+use entity_catalog::{
     Catalog, CatalogFault, Ids, ResolveFault, collapse_public, join, read_catalog, resolve,
 };
 use jats_chars::{NoMemory, Text};

@@ -1,9 +1,9 @@
 //! Catalogs and sets from a store, by examples.
 
-use crate::{ReadFault, load_catalog, read_set};
 use entity_catalog::Catalog;
 use jats_chars::{NoMemory, Text};
 use jats_io::MemoryStore;
+use module_reader::{ReadFault, load_catalog, read_set};
 use std::alloc::Global;
 
 /// What a reading comes to: how many elements the set has, or why there is none.

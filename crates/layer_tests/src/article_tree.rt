@@ -1,6 +1,6 @@
 //! A node is written, and its text measured.
 
-use crate::{AttValues, Item, ItemList, Node, write_article, written_size};
+use article_tree::{AttValues, Item, ItemList, Node, write_article, written_size};
 use jats_chars::{Name, NoMemory, Text};
 use std::alloc::Global;
 

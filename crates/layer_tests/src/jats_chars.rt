@@ -1,6 +1,6 @@
 //! Values from the standard and from the rules of decoding.
 
-use super::*;
+use jats_chars::*;
 use std::alloc::Global;
 use std::test::Fail;
 

@@ -1,7 +1,7 @@
 //! A line of each shape, and what is read back from lines.
 
-use super::*;
 use jats_chars::Text;
+use jats_fault::*;
 use std::alloc::Global;
 use std::test::Fail;
 

@@ -1,6 +1,6 @@
 //! Contents parsed and printed.
 
-use crate::{ContentFault, TextKind, parse_content, print_content, text_kind};
+use content_models::{ContentFault, TextKind, parse_content, print_content, text_kind};
 use jats_chars::{NoMemory, Text};
 use std::alloc::Global;
 use std::test::Fail;

@@ -1,6 +1,6 @@
 //! A tree is built, walked over and counted.
 
-use crate::{AttValues, Item, ItemList, Node, Nodes, elements};
+use document_trees::{AttValues, Item, ItemList, Node, Nodes, elements};
 use jats_chars::{Name, NoMemory, Text};
 use std::alloc::Global;
 

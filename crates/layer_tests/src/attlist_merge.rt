@@ -1,6 +1,6 @@
 //! A list of attributes, with ample memory.
 
-use crate::{AttList, attributes_cover, lists_cover, odd_att, parse_attlist};
+use attlist_merge::{AttList, attributes_cover, lists_cover, odd_att, parse_attlist};
 use jats_chars::Text;
 use std::test::Fail;
 

@@ -3,9 +3,9 @@
 ghost use Rattle.std.specs.Prelude.{IfOk, IfSome};
 ghost use Rattle.content_models.specs.Proper.{IsProper};
 
-use crate::{PairSet, pairs};
 use content_models::{Content, parse_content};
 use jats_chars::{Name, NameList, NoMemory, Text};
+use model_inclusion::{PairSet, pairs};
 use position_automata::{Automaton, build};
 use std::alloc::Global;
 use std::test::Fail;

@@ -1,7 +1,6 @@
-//! An article of one element, declared and not, and a tag with more than a few attributes.
+//! An article of one element, declared and not.
 
-use crate::specified::Specified;
-use crate::{faults, first_broken};
+use article_validator::{faults, first_broken};
 use content_models::Content;
 use decl_set::{DeclFault, DeclSet};
 use document_trees::{AttValues, ItemList, Node};
@@ -52,26 +51,5 @@ fn a_valid_element(rt: HostRuntime) -> Result<(), NoMemory> {
     let answer = declare(rt.alloc(), &mut set);
     let (count, broken) = judged(rt.alloc(), &set, 'e')?;
     assert!(rt; answer.is_ok() && count == 0 && !broken);
-    Ok(())
-}
-
-/// Nine attributes, from `a` on.
-fn nine(alloc: Global) -> Result<AttValues, NoMemory> {
-    let mut atts = AttValues::new(alloc);
-    for c in ['a', 'b', 'c', 'd', 'e', 'f', 'g', 'h', 'i'] {
-        atts.push((named(alloc, c)?, Text::new(alloc)))?;
-    }
-    Ok(atts)
-}
-
-#[test]
-fn attributes_beyond_a_few(rt: HostRuntime) -> Result<(), NoMemory> {
-    let alloc = rt.alloc();
-    let atts = nine(alloc)?;
-    let specified = Specified::new(alloc, atts.as_slice())?;
-    let first = named(alloc, 'a')?;
-    let last = named(alloc, 'i')?;
-    let other = named(alloc, 'j')?;
-    assert!(rt; specified.has(&first) && specified.has(&last) && !specified.has(&other));
     Ok(())
 }

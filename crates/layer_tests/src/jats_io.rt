@@ -2,11 +2,11 @@
 
 ghost use Rattle.std.specs.Prelude.{◌≡◌, ◌<◌, ◌+◌, ◌++◌, length, IsOk};
 
-use crate::{
+use jats_chars::Text;
+use jats_io::{
     FolderStore, LoadFault, Loaded, MemorySink, MemoryStore, Sink, SoundSink, SoundStore, StdSink,
     Store, WriteFault, write_all,
 };
-use jats_chars::Text;
 use std::alloc::Global;
 use std::process::Abort;
 use std::test::Fail;

@@ -1,5 +1,5 @@
-use crate::{Bindings, Budget, PeText, ignored_end, literal, plain_body};
 use jats_chars::{Name, NameList, NoMemory, Text};
+use pe_expansion::{Bindings, Budget, PeText, ignored_end, literal, plain_body};
 use std::alloc::Global;
 use std::test::Fail;
 

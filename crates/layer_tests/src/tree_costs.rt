@@ -1,6 +1,6 @@
 //! Costs are added and compared.
 
-use crate::{Cost, at_most, sum};
+use tree_costs::{Cost, at_most, sum};
 
 #[test]
 fn costs_are_added(rt: HostRuntime) {

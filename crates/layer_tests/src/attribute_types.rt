@@ -1,6 +1,6 @@
 //! That each call succeeds with ample memory.
 
-use crate::{AttType, Preset, class_of, collapse, covers, in_class, sample, uncovered};
+use attribute_types::{AttType, Preset, class_of, collapse, covers, in_class, sample, uncovered};
 use jats_chars::Text;
 use std::test::Fail;
 

@@ -3,9 +3,9 @@
 ghost use Rattle.std.specs.Prelude.{IfOk, IfSome};
 ghost use Rattle.content_models.specs.Proper.{IsProper};
 
-use crate::build;
 use content_models::{Content, parse_content};
 use jats_chars::{NameList, NoMemory, Text};
+use position_automata::build;
 use std::alloc::Global;
 use std::test::Fail;
 

@@ -3,12 +3,12 @@
 ghost use Rattle.std.specs.Prelude.{◌≡◌};
 ghost use Rattle.tree_costs.specs.Leasts.{m_of};
 
-use crate::{BuildOver, least_article};
 use content_models::Content;
 use decl_set::{DeclFault, DeclSet};
 use document_trees::Node;
 use jats_chars::{Name, NoMemory, Text};
 use least_trees::least;
+use separating_article::{BuildOver, least_article};
 use std::alloc::Global;
 use std::test::Fail;
 use tree_costs::{Cost, Least};
