@@ -149,6 +149,25 @@ def at_and_past(name, good, numbers, bad, line):
     return [counted("limit: " + name, good, *numbers), *refused_both("past: " + name, bad, line)]
 
 
+# The other commands, with the set past a limit in each place of a set; the other set and the article are right.
+COMMANDS = ("flatten - m.dtd", "validate - m.dtd a x.xml", "fill - m.dtd x.xml", "least - m.dtd a 5",
+            "report - m.dtd - ok.dtd a", "report - ok.dtd - m.dtd a", "compare - m.dtd - ok.dtd a 0", "compare - ok.dtd - m.dtd a 9",
+            "verify c.txt - m.dtd - ok.dtd", "verify c.txt - ok.dtd - m.dtd")
+BESIDE = {"ok.dtd": "<!ELEMENT a EMPTY>", "x.xml": "<a/>", "c.txt": "certificate 1 a 0\nelement a 1 inf\nstate 0 0 inf\npair 0 0 inf\nend\n"}
+
+
+def for_each_command(over):
+    """A refusal of `check` by each command that reads a set."""
+    assert over.words == "check - m.dtd" and over.status == 2
+    return [Row(f"{over.name}, by {words}", {**over.files, **BESIDE}, words, 2, over.output) for words in COMMANDS]
+
+
+def past_limits():
+    over = [row for row in bytes_of_modules() + number_of_modules() + each(at_and_past, declarations()) + follows() + bytes_of_sets()
+            if row.name.startswith("past: ") and row.words == "check - m.dtd"]
+    return [row for past in over for row in for_each_command(past)]
+
+
 def rows():
     return bytes_of_modules() + number_of_modules() + follows() + unlimited() + each(at_and_past, declarations())
 
@@ -176,5 +195,5 @@ def bytes_of_output():
 
 
 def slow_rows():
-    """Rows that load 33,554,432 bytes or write 268,435,456."""
-    return bytes_of_sets() + bytes_of_output()
+    """Rows that load 33,554,432 bytes or write 268,435,456, and each limit by each command."""
+    return bytes_of_sets() + bytes_of_output() + past_limits()
