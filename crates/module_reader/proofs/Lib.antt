@@ -12,6 +12,7 @@ pub mod Entry
 pub mod FileTexts
 pub mod Handing
 pub mod Naming
+pub mod OpenNames
 pub mod Shifting
 pub mod Asked
 pub mod CatalogFiles

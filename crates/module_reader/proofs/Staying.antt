@@ -1,9 +1,10 @@
 -- Texts that a state keeps while it goes on.
-use Rattle.std.proofs.Common.{◌≡◌, ◌∙◌, ℕ, List, [], ◌∷◌, ◌++◌, Some, None, IsSome, map, refl, sym, ap, slice_get, subst}
+use Rattle.std.proofs.Common.{◌≡◌, ◌∙◌, ℕ, suc, List, [], ◌∷◌, ◌++◌, Some, None, IsSome, refl, sym, ap, slice_get, subst}
 use Rattle.std.specs.Prelude.{Option}
 use Rattle.std.specs.List.{AllByRecursion}
-use Rattle.module_reader.specs.Frames.{found, text_found, IsThere, passage_of, passages_of}
+use Rattle.module_reader.specs.Frames.{found, text_found, IsThere, passage_of, passages_from, passages_of}
 use Rattle.module_reader.specs.Moves.{GoesOn, loaded_at}
+use Rattle.module_reader.specs.Reading.{Names}
 use Rattle.module_reader.specs.declared.frames.Frame.{Frame}
 use Rattle.module_reader.specs.declared.state.State.{State}
 
@@ -26,12 +27,16 @@ module _ (s t : State) (goes : GoesOn s t) where
   all_there_stay [] all = tt
   all_there_stay (f ∷ fs) all = (there_stays f all.0, all_there_stay fs all.1)
 
-  pub passage_stays : (f : Frame) → IsThere s f → passage_of t f ≡ passage_of s f
-  passage_stays f there = rw (text_stays f.text there) refl
+  module _ (names : Names) where
+    pub passage_stays : (f : Frame) → IsThere s f → passage_of t names f ≡ passage_of s names f
+    passage_stays f there = rw (text_stays f.text there) refl
 
-  pub passages_stay : (fs : List Frame) → AllByRecursion (IsThere s) fs → passages_of t fs ≡ passages_of s fs
-  passages_stay [] all = refl
-  passages_stay (f ∷ fs) all = rw (passage_stays f all.0, passages_stay fs all.1) refl
+    passages_stay_from : (n : ℕ) (fs : List Frame) → AllByRecursion (IsThere s) fs → passages_from t names n fs ≡ passages_from s names n fs
+    passages_stay_from n [] all = refl
+    passages_stay_from n (f ∷ fs) all = rw (text_stays f.text all.0, passages_stay_from (suc n) fs all.1) refl
+
+    pub passages_stay : (fs : List Frame) → AllByRecursion (IsThere s) fs → passages_of t names fs ≡ passages_of s names fs
+    passages_stay fs all = passages_stay_from 0 fs all
 
 pub there_push : (s : State) (fs : List Frame) (f : Frame) → AllByRecursion (IsThere s) fs → IsThere s f → AllByRecursion (IsThere s) (fs ++ f ∷ [])
 there_push s [] f all there = (there, tt)

@@ -8,6 +8,7 @@ use Rattle.jats_fault.specs.declared.fault.Fault.{Fault}
 use Rattle.module_reader.specs.Frames.{Ends, IsSound, IsThere, Nears, Turns, found, from, left, left_of, passage_of, passages_of, size_of, text_found}
 use Rattle.module_reader.specs.Moves.{AreChars}
 use Rattle.module_reader.specs.Endings.{Reads}
+use Rattle.module_reader.specs.Reading.{Names}
 use Rattle.module_reader.specs.Sources.{Source}
 use Rattle.module_reader.specs.declared.refusals.Stop.{Stop}
 use Rattle.module_reader.specs.declared.refusals.Stop.TheVariants as fault
@@ -37,19 +38,19 @@ turn_smaller old new true nears = omega (arith, nears.1)
 turn_smaller old new false nears = omega arith
 
 -- the work at its beginning
-pub begins : (source : Source) (s : State) (f : Frame) (ws : Vec Frame Global) → f.text ≡ None → f.names ≡ [] → f.at ≡ 0 → f.sections.items ≡ [] → ws.items ≡ []
-    → left_of source (record { state = s; frame = f; waiting = ws }) ≡ from source (record { text = text_found (slice_get s.modules 0); names = []; standing = f.standing; at = 0; sections = [] }) s
+pub begins : (source : Source) (s : State) (f : Frame) (ws : Vec Frame Global) (names : Names) → f.text ≡ None → f.at ≡ 0 → f.sections.items ≡ [] → ws.items ≡ [] → names ≡ []
+    → left_of source (record { state = s; frame = f; waiting = ws; names = names }) ≡ from source (record { text = text_found (slice_get s.modules 0); names = []; standing = f.standing; at = 0; sections = [] }) s
 unfolding left_of
-begins source s f ws text names at sections none =
-    let p = passage_of s f in
-    ap (λ (fs : List Frame). left source (passages_of s fs) p s) none ∙ bind_ok (from source p s)
-    ∙ ap (λ q. from source q s) (passage_by s f (text_found (slice_get s.modules 0)) [] f.standing 0 [] (ap (λ (o : Option ℕ). text_found (found s o)) text) names refl at sections)
+begins source s f ws names text at sections none unnamed =
+    let p = passage_of s names f in
+    ap (λ (fs : List Frame). left source (passages_of s names fs) p s) none ∙ bind_ok (from source p s)
+    ∙ ap (λ q. from source q s) (passage_by s names f (text_found (slice_get s.modules 0)) [] f.standing 0 [] (ap (λ (o : Option ℕ). text_found (found s o)) text) unnamed refl at sections)
 
 pub ends_reads : (source : Source) (old new : Work) (said : Result State Fault) (f : Stop) → left_of source old ≡ said → Ends {X = Unit {0}} source old new (Err f) → Reads {T = State} said (Err f)
 ends_reads source old new said (fault.Refused refusal) is ends = sym is ∙ ends
 ends_reads source old new said fault.LoadFailed is ends = tt
 ends_reads source old new said fault.NoMemory is ends = tt
 
-pub begins_sound : (s : State) (f : Frame) (ws : Vec Frame Global) → IsSome (found s f.text) → AreChars s → ws.items ≡ [] → IsSound (record { state = s; frame = f; waiting = ws })
+pub begins_sound : (s : State) (f : Frame) (ws : Vec Frame Global) (names : Names) → IsSome (found s f.text) → AreChars s → ws.items ≡ [] → names ≡ [] → IsSound (record { state = s; frame = f; waiting = ws; names = names })
 unfolding IsSound
-begins_sound s f ws there chars none = (there, subst (λ (fs : List Frame). AllByRecursion (IsThere s) fs) (sym none) tt, chars)
+begins_sound s f ws names there chars none unnamed = (there, subst (λ (fs : List Frame). AllByRecursion (IsThere s) fs) (sym none) tt, chars, rw (none, unnamed) refl)

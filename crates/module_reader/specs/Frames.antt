@@ -1,5 +1,5 @@
 -- Texts that wait, and what is left to do.
-use Rattle.std.specs.Prelude.{◌≡◌, ◌<◌, ◌≤◌, Bool, true, false, ℕ, ◌+◌, ◌-◌, ◌*◌, List, [], ◌∷◌, ◌++◌, length, drop, map, Option, Some, None, IsSome, slice_get, Result, Ok, Err}
+use Rattle.std.specs.Prelude.{◌≡◌, ◌<◌, ◌≤◌, Bool, true, false, ℕ, suc, ◌+◌, ◌-◌, ◌*◌, List, [], ◌∷◌, ◌++◌, length, take, drop, Option, Some, None, IsSome, slice_get, Result, Ok, Err}
 use Rattle.std.specs.List.{AllByRecursion}
 use Rattle.std.specs.Option.{option_map_or}
 use Rattle.dtd_scanner.specs.Scanning.{first_item}
@@ -73,12 +73,17 @@ found s (Some k) = loaded_at s.bound k
 abbrev pub text_found : Option (List ℕ × List ℕ) → List ℕ
 text_found o = option_map_or (λ e. e.1) o []
 
--- the text that a frame reads, which the state keeps
-abbrev pub passage_of : State → Frame → Passage
-passage_of s f = record { text = text_found (found s f.text); names = f.names; standing = f.standing; at = f.at; sections = f.sections.items }
+-- the text that a frame reads, which the state keeps, with these names open
+abbrev pub passage_of : State → Names → Frame → Passage
+passage_of s names f = record { text = text_found (found s f.text); names = names; standing = f.standing; at = f.at; sections = f.sections.items }
 
-abbrev pub passages_of : State → List Frame → List Passage
-passages_of s frames = map (passage_of s) frames
+-- texts that wait: the first n of the names are open in the first text, and one more in each later one
+abbrev pub passages_from : State → Names → ℕ → List Frame → List Passage
+passages_from s names n [] = []
+passages_from s names n (f ∷ fs) = passage_of s (take n names) f ∷ passages_from s names (suc n) fs
+
+abbrev pub passages_of : State → Names → List Frame → List Passage
+passages_of s names frames = passages_from s names 0 frames
 
 -- the state has the text of a frame
 abbrev pub IsThere : State → Frame → Type 0
@@ -86,10 +91,10 @@ IsThere s f = IsSome (found s f.text)
 
 -- the text that is read, and those that wait
 abbrev pub current : Work → Passage
-current w = passage_of w.state w.frame
+current w = passage_of w.state w.names w.frame
 
 abbrev pub waiting : Work → List Passage
-waiting w = passages_of w.state w.waiting.items
+waiting w = passages_of w.state w.names w.waiting.items
 
 -- what a work still gives
 unfoldable pub left_of : Source → Work → Result State Fault
@@ -99,9 +104,9 @@ left_of source w = left source (waiting w) (current w) w.state
 unfoldable pub size_of : Work → ℕ
 size_of w = 2 * ((67108864 - w.state.spent) + (unread (current w) + all_unread (waiting w))) + length w.waiting.items
 
--- the state has all the texts, and its texts are of Chars
+-- the state has all the texts, its texts are of Chars, and as many names are open as texts wait
 unfoldable pub IsSound : Work → Type 0
-IsSound w = IsThere w.state w.frame × AllByRecursion (IsThere w.state) w.waiting.items × AreChars w.state
+IsSound w = IsThere w.state w.frame × AllByRecursion (IsThere w.state) w.waiting.items × AreChars w.state × (length w.names ≡ length w.waiting.items)
 
 -- the work is sound, and comes nearer to its end
 abbrev pub Advances : Work → Work → Type 0
@@ -197,7 +202,7 @@ pub record Enters (catalog : Named) (old new : Work) (next : ℕ) (name : List �
   pub state : new.state ≡ old.state
   pub waits : new.waiting.items ≡ old.waiting.items ++ record old.frame { at = next } ∷ []
   pub text : new.frame.text ≡ Some number
-  pub names : new.frame.names ≡ old.frame.names ++ name ∷ []
+  pub names : new.names ≡ old.names ++ name ∷ []
   pub standing : (files : Files) → new.frame.standing ≡ standing_of (record { files = files; catalog = catalog }) old.frame.standing old.frame.at name (text_bound old.state.bound name)
   pub at : new.frame.at ≡ 0
   pub sections : new.frame.sections.items ≡ []

@@ -159,7 +159,6 @@ pub fn read_text<S: Store>(
 {
     let frame = Frame {
         text: None,
-        names: NameList::new(alloc),
         standing,
         at: 0,
         sections: Vec::new(alloc),
@@ -168,6 +167,7 @@ pub fn read_text<S: Store>(
         state,
         frame,
         waiting: Vec::new(alloc),
+        names: NameList::new(alloc),
     };
     match run(alloc, store, catalog, &mut work) {
         Err(fault) => Err(fault),

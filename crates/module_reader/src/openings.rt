@@ -1,6 +1,6 @@
 //! The texts of references between declarations.
 
-ghost use Rattle.std.specs.Prelude.{◌≡◌, ◌∷◌, ◌++◌, [], IfOk, OnOk, Some, ℕ, List, length, unwrap_or};
+ghost use Rattle.std.specs.Prelude.{◌≡◌, [], IfOk, OnOk, Some, ℕ, List, length, unwrap_or};
 ghost use Rattle.std.specs.Option.{option_copied};
 ghost use Rattle.entity_catalog.specs.Resolution as resolution;
 ghost use Rattle.module_reader.specs.Frames.{Enters};
@@ -11,7 +11,7 @@ ghost use Rattle.module_reader.specs.Stops as stops;
 use crate::frames::{Frame, Work};
 use crate::standing::{Inner, Standing};
 use entity_catalog::{Catalog, Ids, ResolveFault, resolve};
-use jats_chars::{Name, NameList, NoMemory, Text};
+use jats_chars::{Name, NoMemory, Text};
 use pe_expansion::PeText;
 use std::alloc::Global;
 use std::mem;
@@ -83,15 +83,6 @@ fn standing_of(
     }
 }
 
-/// The names with one more.
-fn with_name(alloc: Global, names: &NameList, name: Name) -> Result<NameList, NoMemory>
-    ensures { IfOk result (λ ns. ns ≡ names.now ++ name ∷ []) }
-{
-    let mut names = names.copy(alloc)?;
-    names.push(name)?;
-    Ok(names)
-}
-
 /// Reads the text of the entity with this name at the number; the text that is read waits at the next place.
 pub fn enter(
     alloc: Global,
@@ -111,11 +102,10 @@ pub fn enter(
         &name,
         work.state.bound.text_of(&name),
     )?;
-    let names = with_name(alloc, &work.frame.names, name)?;
+    work.names.push(name)?;
     work.frame.at = next;
     let inner = Frame {
         text: Some(number),
-        names,
         standing,
         at: 0,
         sections: Vec::new(alloc),

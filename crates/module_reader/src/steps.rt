@@ -48,6 +48,7 @@ fn resume(work: &mut Work) -> Result<bool, Stop>
         None => Ok(false),
         Some(frame) => {
             work.frame = frame;
+            work.names.truncate(work.waiting.len());
             Ok(true)
         }
     }

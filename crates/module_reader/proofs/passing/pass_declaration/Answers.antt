@@ -12,7 +12,7 @@ pub returns-in-Err-clause-told : goal.returns-in-Err-clause-told
 returns-in-Err-clause-told g c =
     let w = c.args.work.now in
     let contents : c.as_slice.result.now ≡ contents_of (rest_of (current w)) 0 c.args.kind (c.args.next - w.frame.at) = c.as_slice.ensures ∙ c.in_ok-body.ensures.value in
-    let said = λ (files : Files). declaration (record { files = files; catalog = c.args.catalog.now }) w.frame.names w.frame.standing w.frame.at c.args.kind w.state c.as_slice.result.now in
+    let said = λ (files : Files). declaration (record { files = files; catalog = c.args.catalog.now }) w.names w.frame.standing w.frame.at c.args.kind w.state c.as_slice.result.now in
     let t = c.declare_expanded.new.state in
     told (g.S.Store.holds c.args.store.now) (λ files. Moves {T = Unit {0}} (said files) t (Err c.in-Err.fault)) (λ files. Stepped {X = Unit {0}} (record { files = files; catalog = c.args.catalog.now }) w w (Err c.in-Err.fault))
     (λ files. moves_fault (record { files = files; catalog = c.args.catalog.now }) w (said files) t c.in-Err.fault

@@ -13,7 +13,7 @@ returns-in-Err-clause-told g c =
     let w = c.args.work.now in
     let name = c.as_slice.result.now in
     let is : name ≡ named (c.args.next - w.frame.at) (rest_of (current w)) = c.as_slice.ensures ∙ c.text.ensures.value ∙ c.in_ok-name.ensures in
-    let said = λ (files : Files). asking (record { files = files; catalog = c.args.catalog.now }) w.frame.standing w.frame.at (λ t. opening t.bound w.frame.names t.spent name) w.state in
+    let said = λ (files : Files). asking (record { files = files; catalog = c.args.catalog.now }) w.frame.standing w.frame.at (λ t. opening t.bound w.names t.spent name) w.state in
     let u = c.open_entity.new.state in
     told (g.S.Store.holds c.args.store.now) (λ files. OpensIn (said files) u name (Err c.in-Err.fault)) (λ files. Stepped {X = Unit {0}} (record { files = files; catalog = c.args.catalog.now }) w w (Err c.in-Err.fault))
     (λ files. unopened_fault (record { files = files; catalog = c.args.catalog.now }) w c.args.next c.requires.stands name is u c.in-Err.fault) c.in-Err.ensures.told
@@ -24,7 +24,7 @@ returns-in-Ok-enter-clause-told g c =
     let name = c.as_slice.result.now in
     let spelled : name ≡ c.in_ok-name.name = c.as_slice.ensures ∙ c.text.ensures.value in
     let is : name ≡ named (c.args.next - w.frame.at) (rest_of (current w)) = spelled ∙ c.in_ok-name.ensures in
-    let said = λ (files : Files). asking (record { files = files; catalog = c.args.catalog.now }) w.frame.standing w.frame.at (λ t. opening t.bound w.frame.names t.spent name) w.state in
+    let said = λ (files : Files). asking (record { files = files; catalog = c.args.catalog.now }) w.frame.standing w.frame.at (λ t. opening t.bound w.names t.spent name) w.state in
     let u = c.open_entity.new.state in
     let new = c.enter.new.work in
     let P : List ℕ → Type 0 = λ n. Enters c.args.catalog.now (record w { state = u }) new c.args.next n c.in-Ok.opened.number in

@@ -15,7 +15,7 @@ returns-in-Err-clause-told g c =
     let w = c.args.work.now in
     let keyword = c.as_slice.result.now in
     let contents : keyword ≡ contents_of (rest_of (current w)) 0 SectionStart (c.args.next - w.frame.at) = c.as_slice.ensures ∙ c.in_ok-keyword.ensures.value in
-    let said = λ (files : Files). counted (expanded (record { files = files; catalog = c.args.catalog.now }) w.frame.names w.frame.standing w.frame.at w.state keyword) in
+    let said = λ (files : Files). counted (expanded (record { files = files; catalog = c.args.catalog.now }) w.names w.frame.standing w.frame.at w.state keyword) in
     let t = c.expand_body.new.state in
     told (g.S.Store.holds c.args.store.now) (λ files. Gives (said files) t (Err c.in-Err.fault)) (λ files. Stepped {X = Unit {0}} (record { files = files; catalog = c.args.catalog.now }) w w (Err c.in-Err.fault))
     (λ files. gives_fault (record { files = files; catalog = c.args.catalog.now }) w (said files) t c.in-Err.fault (keyword_steps (record { files = files; catalog = c.args.catalog.now }) w c.args.next c.requires.stands keyword contents)) c.in-Err.ensures.told
@@ -33,7 +33,7 @@ returns-clause-told g c =
     let w = c.args.work.now in
     let keyword = c.as_slice.result.now in
     let contents : keyword ≡ contents_of (rest_of (current w)) 0 SectionStart (c.args.next - w.frame.at) = c.as_slice.ensures ∙ c.in_ok-keyword.ensures.value in
-    let said = λ (files : Files). counted (expanded (record { files = files; catalog = c.args.catalog.now }) w.frame.names w.frame.standing w.frame.at w.state keyword) in
+    let said = λ (files : Files). counted (expanded (record { files = files; catalog = c.args.catalog.now }) w.names w.frame.standing w.frame.at w.state keyword) in
     let u = c.expand_body.new.state in
     told (g.S.Store.holds c.args.store.now) (λ files. Gives (said files) u (Ok c.in-Ok.word)) (λ files. Stepped (record { files = files; catalog = c.args.catalog.now }) w c.begin_section.new.work c.begin_section.result)
     (λ files gives. begun_stepped (record { files = files; catalog = c.args.catalog.now }) w c.args.next c.requires.stands keyword contents u c.in-Ok.word gives c.requires.sound c.in-Ok.ensures.goes_on c.begin_section.new.work c.begin_section.result c.begin_section.ensures.begins)
