@@ -26,6 +26,7 @@ returns-in-Some-clause-nears c =
     let ws = c.pop.new.self in
     let count : c.len.result ≡ length ws.items = omega (arith, c.len.ensures, ws.ok.0) in
     let names : c.truncate.new.self ≡ take (length ws.items) w.names = c.truncate.ensures ∙ ap (λ n. take n w.names) count in
-    let there = there_pop w.state ws.items c.in-Some.frame (rw c.in-Some.ensures.items at c.requires.sound.1) in
-    ((there.1, there.0, c.requires.sound.2, rw names (pop_names w.names c.in-Some.frame ws.items w.waiting.items c.requires.sound.3 c.in-Some.ensures.items)),
-    rw names (pop_size w.state w.names w.frame c.in-Some.frame ws.items w.waiting.items c.requires.over.0 c.in-Some.ensures.items))
+    let there = there_pop w.state ws.items c.in-Some.frame (rw c.in-Some.ensures.items at c.requires.sound.1) in (
+      (there.1, there.0, c.requires.sound.2, rw names (pop_names w.names c.in-Some.frame ws.items w.waiting.items c.requires.sound.3 c.in-Some.ensures.items)),
+      rw names (pop_size w.state w.names w.frame c.in-Some.frame ws.items w.waiting.items c.requires.over.0 c.in-Some.ensures.items),
+    )
