@@ -7,8 +7,8 @@ pub returns-then-is_declared : goal.returns-then-is_declared
 returns-then-is_declared c =
     (element_doubled c.args.self.now c.args.name c.args.content (sym c.is_declared.ensures ∙ c.if-is_declared.true), refl)
 
-pub returns-then-count-ge-MOST_ELEMENTS : goal.returns-then-count-ge-MOST_ELEMENTS
-returns-then-count-ge-MOST_ELEMENTS c =
+pub returns-then-count-ge-ELEMENTS : goal.returns-then-count-ge-ELEMENTS
+returns-then-count-ge-ELEMENTS c =
     let many : 1024 ≤ length c.args.self.now.elements = omega (arith, c.count.ensures.value) in
     (element_over c.args.self.now c.args.name c.args.content (sym c.is_declared.ensures ∙ c.if-is_declared.false) many, refl)
 
