@@ -4,40 +4,40 @@
 #![tactic(auto)]
 
 #[cfg(test)]
-mod article_tree;
+mod article_tree_tests;
 #[cfg(test)]
-mod article_validator;
+mod article_validator_tests;
 #[cfg(test)]
-mod attlist_merge;
+mod attlist_merge_tests;
 #[cfg(test)]
-mod attribute_types;
+mod attribute_types_tests;
 #[cfg(test)]
-mod content_models;
+mod content_models_tests;
 #[cfg(test)]
-mod document_trees;
+mod document_trees_tests;
 #[cfg(test)]
-mod dtd_scanner;
+mod dtd_scanner_tests;
 #[cfg(test)]
-mod entity_catalog;
+mod entity_catalog_tests;
 #[cfg(test)]
-mod folder_reads;
+mod folder_tests;
 #[cfg(test)]
-mod jats_chars;
+mod jats_chars_tests;
 #[cfg(test)]
-mod jats_fault;
+mod jats_fault_tests;
 #[cfg(test)]
-mod jats_io;
+mod jats_io_tests;
 #[cfg(test)]
-mod model_inclusion;
+mod model_inclusion_tests;
 #[cfg(test)]
-mod module_reader;
+mod module_reader_tests;
 #[cfg(test)]
-mod pe_expansion;
+mod pe_expansion_tests;
 #[cfg(test)]
-mod position_automata;
+mod position_automata_tests;
 #[cfg(test)]
-mod separating_article;
+mod separating_article_tests;
 #[cfg(test)]
-mod tagset_tool;
+mod tagset_tool_tests;
 #[cfg(test)]
-mod tree_costs;
+mod tree_costs_tests;
