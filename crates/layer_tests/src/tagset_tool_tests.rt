@@ -12,12 +12,6 @@ const A_EMPTY: &[u8; 18] = b"<!ELEMENT a EMPTY>";
 const SUBSET: &[u8; 87] =
     b"subset\ndocuments some\ncertificate 1 a 0\nelement a 1 inf\nstate 0 0 inf\npair 0 0 inf\nend\n";
 
-const PLAIN: &[u8; 130] =
-    b"subset\ndocuments some\ncertificate 1 r 0\nelement r 1 inf\nstate 0 0 inf\npair 0 0 inf\nelement a 1 inf\nstate 0 0 inf\npair 0 0 inf\nend\n";
-
-const ABOVE: &[u8; 140] =
-    b"not subset\nabove 0\nbroken r content\ncertificate 1 r 0\nelement r 1 1\nstate 0 0 inf\npair 0 0 1\nelement a 1 inf\nstate 0 0 inf\npair 0 0 inf\nend\n";
-
 const LEAST: &[u8; 160] =
     b"not subset\nleast 2\nbroken r content\ncertificate 1 r 2\nelement r 1 2\nstate 0 0 inf\npair 0 0 1\nelement a 1 inf\nstate 0 0 inf\npair 0 0 inf\nend\narticle\n<r><a/></r>\n";
 
@@ -58,39 +52,20 @@ fn answers<R: Abort>(
     Ok(())
 }
 
-/// What the comparison of m.dtd with n.dtd from this root up to this cap gives.
-fn compared<R: Abort>(
-    rt: &R,
-    alloc: Global,
-    m: &[u8],
-    n: &[u8],
-    root: &str,
-    status: u8,
-    out: &[u8],
-) -> Result<(), Fail> {
-    let line = format!(in alloc; "compare - m.dtd - n.dtd {root}")?;
-    let mut store = store(alloc, m, n)?;
-    answers(rt, alloc, &mut store, line.as_str(), status, out)
-}
-
 #[test]
-fn verdicts(rt: HostRuntime) -> Result<(), Fail> {
+fn a_least_separating_article(rt: HostRuntime) -> Result<(), Fail> {
     let alloc = rt.alloc();
-    compared(&rt, alloc, A_EMPTY, A_EMPTY, "a 0", 0, SUBSET)?;
     let listed = b"<!ELEMENT r (#PCDATA|a)*><!ELEMENT a EMPTY>";
     let plain = b"<!ELEMENT r (#PCDATA)>\n<!ELEMENT a EMPTY >";
-    compared(&rt, alloc, listed, plain, "r 0", 1, ABOVE)?;
-    compared(&rt, alloc, listed, plain, "r 2", 1, LEAST)?;
-    compared(&rt, alloc, plain, listed, "r 0", 0, PLAIN)
-}
-
-#[test]
-fn generated_work(rt: HostRuntime) -> Result<(), Fail> {
-    let alloc = rt.alloc();
-    let mut files = MemoryStore::new(alloc);
-    let out = b"elements 5\nself subset\npairs 12\nvariant least 5\n";
-    answers(&rt, alloc, &mut files, "work 5", 0, out)?;
-    answers(&rt, alloc, &mut files, "work 05", 3, b"usage\n")
+    let mut files = store(alloc, listed, plain)?;
+    answers(
+        &rt,
+        alloc,
+        &mut files,
+        "compare - m.dtd - n.dtd r 2",
+        1,
+        LEAST,
+    )
 }
 
 #[test]
