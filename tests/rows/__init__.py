@@ -1,9 +1,9 @@
 """The table: rows by subject."""
 
 from . import (articles, attributes, catalogs, comparison, contents, entities, expansion, faults, flat_texts,
-               forms, least, limits, modules, report, sections, separating, validity, verify, waiting, work)
+               forms, least, limits, modules, names, report, sections, separating, validity, verify, waiting, work)
 
-SUBJECTS = (entities, expansion, waiting, sections, modules, catalogs, forms, contents, attributes, faults,
+SUBJECTS = (names, entities, expansion, waiting, sections, modules, catalogs, forms, contents, attributes, faults,
             limits, flat_texts, comparison, articles, validity, report, least, verify, separating, work)
 
 # These have rows that go to limits of many millions of characters, and take a second or more each.

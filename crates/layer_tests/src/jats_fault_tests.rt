@@ -13,7 +13,7 @@ fn a_line(rt: HostRuntime) -> Result<(), NoMemory> {
     };
     if fault_name(14) == Some("NotChar") {
         let bytes = line(rt.alloc(), &fault)?;
-        assert!(rt; bytes.as_slice() == b"refused E14 NotChar m.dtd 18\n");
+        assert!(rt; bytes.as_slice() == b"refused E14 NotChar m.dtd 18\n".as_slice());
         assert!(rt; number_of_line(bytes.as_slice()) == Some(14));
     }
     Ok(())

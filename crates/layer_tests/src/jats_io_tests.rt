@@ -45,7 +45,7 @@ fn a_sink(rt: HostRuntime) -> Result<(), NoMemory> {
     let mut sink = MemorySink::new(rt.alloc(), 100, 10)?;
     sink.fail_call(2)?;
     assert!(rt; write_all(&mut sink, b"subset\ndocuments some\n").is_err());
-    assert!(rt; sink.bytes() == b"subset\ndoc" && sink.calls() == 2);
+    assert!(rt; sink.bytes() == b"subset\ndoc".as_slice() && sink.calls() == 2);
     Ok(())
 }
 
