@@ -1,6 +1,6 @@
 """Names by the ends of the ranges of their classes (XML 1.0, 2.3, productions 4 and 4a), and characters by theirs (2.2, production 2)."""
 
-from .form import counted, refused
+from .form import MARK, counted, refused
 
 STARTS = [(0x3A, 0x3A), (0x41, 0x5A), (0x5F, 0x5F), (0x61, 0x7A), (0xC0, 0xD6), (0xD8, 0xF6), (0xF8, 0x2FF), (0x370, 0x37D),
           (0x37F, 0x1FFF), (0x200C, 0x200D), (0x2070, 0x218F), (0x2C00, 0x2FEF), (0x3001, 0xD7FF), (0xF900, 0xFDCF),
@@ -31,7 +31,7 @@ def rows():
     starts = "".join(f"<!ELEMENT {chr(code)} EMPTY>" for code in ends(STARTS))
     later = "".join(f"<!ELEMENT a{chr(code)} EMPTY>" for code in ends(STARTS + LATER))
     no_start = [code for code in beside(STARTS, CHARS) if not spaced(code)]
-    no_name = [code for code in beside(STARTS + LATER, CHARS) if not spaced(code)]
+    no_name = [code for code in beside(STARTS + LATER, CHARS) if not spaced(code) and chr(code) != MARK]
     return [counted("names by their first characters", starts, len(ends(STARTS))),
             counted("names by their later characters", later, len(ends(STARTS + LATER))),
             *(refused(f"U+{code:04X} begins no name", f"¶<!ELEMENT {chr(code)} EMPTY>", "E20 Malformed @") for code in no_start),
