@@ -60,9 +60,11 @@ def texts():
     yield "40,000 references under 30 open names of 30,000 characters", nested_names([f"n{k}{LONG}" for k in range(30)], 40_000)
     short = nested_names([f"n{k}" for k in range(6)], 1)
     yield "millions of references under 31 open names", doublings(24, leaf="") + short.replace("&#37;e;", "&#37;p24;")
-    yield "a model of 32 million names", doublings(23, leaf="a|a|") + "<!ELEMENT a (%p23;b)>"
-    yield "an enumeration of 32 million tokens", doublings(23, leaf="a|a|") + "<!ATTLIST a k (%p23;b) #IMPLIED>"
-    yield "a notation type of 32 million names", doublings(23, leaf="a|a|") + "<!ATTLIST a k NOTATION (%p23;b) #IMPLIED>"
+    many = doublings(11, leaf="a|" * 15_000)
+    yield "a model of 30 million names", many + "<!ELEMENT a (%p11;b)>"
+    yield "a mixed content of 30 million names", many + "<!ELEMENT a (#PCDATA|%p11;b)*>"
+    yield "an enumeration of 30 million tokens", many + "<!ATTLIST a k (%p11;b) #IMPLIED>"
+    yield "a notation type of 30 million names", many + "<!ATTLIST a k NOTATION (%p11;b) #IMPLIED>"
     yield "100,000 included sections in one another", "<![INCLUDE[" * 100_000 + "]]>" * 100_000
     yield "a content of 1,024 names under 64 signs each", "<!ELEMENT a " + "(" * 63 + "(" + "|".join(f"n{k}?" for k in range(1_024)) + ")?" + ")*" * 63 + ">"
     yield "1,024 elements of 124 names under a star", "".join(f"<!ELEMENT e{k} (" + "|".join(f"e{i}" for i in range(124)) + ")*>" for k in range(1_024))
