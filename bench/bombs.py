@@ -3,7 +3,9 @@
 `python3 bench/bombs.py PROGRAM [WORD..]` prints one line for each input whose title holds all the words: seconds, megabytes, status and
 answer of one run. It judges nothing; `docs/RULES.md` says what each may take."""
 
+import json
 import os
+import subprocess
 import sys
 import tempfile
 
@@ -117,15 +119,27 @@ def write(folder, files):
             file.write(content)
 
 
+def serve():
+    """Runs what is asked for, line by line. A process that is small starts the program, whose memory would else count that of this one."""
+    for line in sys.stdin:
+        words, folder = json.loads(line)
+        took, size, status, answer = run(words, folder)
+        print(json.dumps([took, size, status, answer[:60].decode("utf-8", "replace")]), flush=True)
+
+
 def main():
+    if sys.argv[1:] == ["serve"]:
+        return serve()
     program, wanted = os.path.abspath(sys.argv[1]), sys.argv[2:]
+    runner = subprocess.Popen([sys.executable, __file__, "serve"], stdin=subprocess.PIPE, stdout=subprocess.PIPE, text=True)
     for title, files, words in sets():
         if not all(word in title for word in wanted):
             continue
         with tempfile.TemporaryDirectory() as folder:
             write(folder, files)
-            took, size, status, answer = run([program, *words.split(" ")], folder)
-            shown = answer[:60].decode("utf-8", "replace").replace("\n", " ")
+            print(json.dumps([[program, *words.split(" ")], folder]), file=runner.stdin, flush=True)
+            took, size, status, answer = json.loads(runner.stdout.readline())
+            shown = answer.replace("\n", " ")
             print(f"{title:58} {took:7.2f} s {size / 1024:7.0f} MB  status {status}  {shown}", flush=True)
 
 
