@@ -1,6 +1,8 @@
 //! What the definitions of the output say together.
 
-ghost use Rattle.tagset_tool.specs.Headline.{HeadlineLaw};
+ghost use Rattle.article_tree.specs.Writing.{IsWritable};
+ghost use Rattle.document_trees.specs.Trees.{Node};
+ghost use Rattle.tagset_tool.specs.Headline.{HeadlineLaw, IsReadBack};
 ghost use Rattle.tagset_tool.specs.Law.{OutputLaw, SubsetLaw};
 
 /// Where both sets are read, the first declares the root and the output is not too long, status 0 says that no document
@@ -20,4 +22,10 @@ pub fn headline_law()
 /// Words and files have one output.
 pub fn output_law()
     ensures { OutputLaw }
+{}
+
+/// The bytes that are written of a writable node are read back as that node, whatever their file is named and whatever entities
+/// are declared.
+pub fn written_law()
+    ensures { (node : Node) → IsWritable node → IsReadBack node }
 {}

@@ -19,6 +19,6 @@ mod sound;
 mod top;
 mod words;
 
-pub use laws::{headline_law, output_law, subset_law};
+pub use laws::{headline_law, output_law, subset_law, written_law};
 pub use sound::run_sound;
 pub use top::run;
