@@ -1,12 +1,12 @@
 //! The inequalities of tables.
 
-ghost use Rattle.std.specs.Prelude.{◌≡◌, ◌<◌, ◌++◌, Some, [], ◌∷◌, slice_get, option_and_then, option_map};
+ghost use Rattle.std.specs.Prelude.{◌≡◌, ◌<◌, ◌++◌, Some, [], ◌∷◌, slice_get, option_and_then};
 ghost use Rattle.std.specs.List.{flat_map, range_with_len};
 ghost use Rattle.content_models.specs.Model.{Chars};
 ghost use Rattle.position_automata.specs.Automata.{states as states_in};
 ghost use Rattle.position_automata.specs.Stepping.{step_on};
 ghost use Rattle.decl_set.specs.Children.{place_in};
-ghost use Rattle.decl_set.specs.Declarations.{content_in, name_of};
+ghost use Rattle.decl_set.specs.Declarations.{content_in};
 ghost use Rattle.decl_set.specs.Steps.{steps_in};
 ghost use Rattle.bound_checker.specs.Tabled.{Fits, IsPair, costs_of};
 ghost use Rattle.bound_checker.specs.Tests as spec;
@@ -200,18 +200,18 @@ fn at_pair_step(
     pair: &PairRow,
     step: usize,
     on: &Name,
+    child: Option<usize>,
     to: u32,
     near: &mut Near,
 ) -> Option<Broken>
     requires held { IsHeld held.now }
     requires other { pair.now.j < states_in other.now }
     requires left { (costs_in held.now).g held.now.name.now pair.now.i pair.now.j ≡ pair.now.g }
-    requires step { option_map name_of (slice_get (steps_in held.now.first.now held.now.automaton.now pair.now.i) step) ≡ Some on.now }
+    requires child { child ≡ place_in held.now.first.now.elements on.now }
     ensures { result ≡ failing (spec.on_both held.now.first.now held.now.second.now held.now.tables.now.cap (costs_in held.now) held.now.place held.now.name.now pair.now.i pair.now.j step (on.now, to) (step_on other.now pair.now.j on.now) ∷ []) }
 {
     let (next, behind) = next_near(other, pair.j, on, near.step);
     near.step = behind;
-    let child = held.child(pair.i, step, on);
     on_both(held, pair, step, child, to, next, &mut near.pair)
 }
 
@@ -224,10 +224,10 @@ fn on_pair_steps(held: &Held, other: &Automaton, pair: &PairRow) -> Option<Broke
 {
     let mut near = Near { step: 0, pair: 0 };
     for step in 0..1024 {
-        match held.first.step_at(held.place, pair.i, step) {
+        match held.step(pair.i, step) {
             None => return None,
-            Some((on, to)) => {
-                match at_pair_step(held, other, pair, step, on, to, &mut near) {
+            Some((on, child, to)) => {
+                match at_pair_step(held, other, pair, step, on, child, to, &mut near) {
                     Some(broken) => return Some(broken),
                     None => {}
                 }

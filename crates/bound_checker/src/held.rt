@@ -53,10 +53,10 @@ pub(crate) fn row_at(tables: &Tables, child: Option<usize>) -> Option<&Row>
     }
 }
 
-impl Held<'_> {
-    ghost use Rattle.std.specs.Prelude.{Some, option_map};
+impl<'a> Held<'a> {
+    ghost use Rattle.std.specs.Prelude.{ℕ, IfSome, option_map};
+    ghost use Rattle.content_models.specs.Model.{Chars};
     ghost use Rattle.decl_set.specs.Children.{place_in};
-    ghost use Rattle.decl_set.specs.Declarations.{name_of};
     ghost use Rattle.decl_set.specs.Steps.{steps_in};
     ghost use Rattle.bound_checker.specs.Holding.{IsHeld, costs_in};
 
@@ -104,15 +104,23 @@ impl Held<'_> {
         }
     }
 
-    /// The place of the element to which a step leads, or None where it is not declared.
-    pub(crate) fn child(&self, state: u32, step: usize, on: &Name) -> Option<usize>
-        requires held { IsHeld self.now }
-        requires step { option_map name_of (slice_get (steps_in self.now.first.now self.now.automaton.now state) step) ≡ Some on.now }
-        ensures { result ≡ place_in self.now.first.now.elements on.now }
+    /// A step of a state: its name, the place of its element, or None where that is not declared, and the state that it leads
+    /// to. None exactly where there is no such step.
+    pub(crate) fn step(&self, state: u32, k: usize) -> Option<(&'a Name, Option<usize>, u32)>
+        requires { IsHeld self.now }
+        ensures step { option_map {U = Chars × ℕ} (λ s. (s.0.now, s.2)) result ≡ slice_get (steps_in self.now.first.now self.now.automaton.now state) k }
+        ensures child { IfSome result (λ s. s.1 ≡ place_in self.now.first.now.elements s.0.now) }
     {
-        match self.first.child_at(self.place, state, step) {
+        match self.first.child_at(self.place, state, k) {
             None => None,
-            Some((child, _)) => child,
+            Some((Some(child), to)) => match self.first.name_at(child) {
+                None => None,
+                Some(name) => Some((name, Some(child), to)),
+            },
+            Some((None, _)) => match self.first.step_at(self.place, state, k) {
+                None => None,
+                Some((name, to)) => Some((name, None, to)),
+            },
         }
     }
 

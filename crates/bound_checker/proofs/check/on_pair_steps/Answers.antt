@@ -6,22 +6,22 @@ use Rattle.position_automata.specs.Stepping.{step_on}
 use Rattle.bound_checker.specs.Holding.{costs_in}
 use Rattle.bound_checker.specs.Tests.{on_both}
 use Rattle.bound_checker.proofs.Firsts.{each_stop, each_hit, each_miss, each_end}
-use Rattle.bound_checker.proofs.Stepping.{told, few}
+use Rattle.bound_checker.proofs.Stepping.{few}
 use Rattle.bound_checker.proofs.check.on_pair_steps.Goals as goal
 
 pub returns-in-None : goal.returns-in-None
 returns-in-None c =
     each_stop (λ k s. on_both c.args.held.now.first.now c.args.held.now.second.now c.args.held.now.tables.now.cap (costs_in c.args.held.now) c.args.held.now.place c.args.held.now.name.now c.args.pair.now.i c.args.pair.now.j k s (step_on c.args.other.now c.args.pair.now.j s.0) ∷ [])
     (steps_in c.args.held.now.first.now c.args.held.now.automaton.now c.args.pair.now.i) c.loop-step.step
-    (option_map {U = Chars × ℕ} (λ s. (s.0.now, s.1)) c.step_at.result) (told c.args.held.now.first.now c.args.held.now.place c.args.pair.now.i c.loop-step.step c.args.held.now.name.now c.args.held.now.automaton.now _ c.requires.held.place c.step_at.ensures.value)
-    (ap (option_map {U = Chars × ℕ} (λ s. (s.0.now, s.1))) c.in-None.is) c.loop-step.invariant
+    (option_map {U = Chars × ℕ} (λ s. (s.0.now, s.2)) c.step.result) c.step.ensures.step
+    (ap (option_map {U = Chars × ℕ} (λ s. (s.0.now, s.2))) c.in-None.is) c.loop-step.invariant
 
 pub returns-in-Some-at_pair_step : goal.returns-in-Some-at_pair_step
 returns-in-Some-at_pair_step c =
     each_hit (λ k s. on_both c.args.held.now.first.now c.args.held.now.second.now c.args.held.now.tables.now.cap (costs_in c.args.held.now) c.args.held.now.place c.args.held.now.name.now c.args.pair.now.i c.args.pair.now.j k s (step_on c.args.other.now c.args.pair.now.j s.0) ∷ [])
     (steps_in c.args.held.now.first.now c.args.held.now.automaton.now c.args.pair.now.i) c.loop-step.step
     (c.in-Some.on.now, c.in-Some.to) c.at_pair_step.result c.in-Some-at_pair_step.broken
-    (sym (ap (option_map {U = Chars × ℕ} (λ s. (s.0.now, s.1))) c.in-Some.is) ∙ (told c.args.held.now.first.now c.args.held.now.place c.args.pair.now.i c.loop-step.step c.args.held.now.name.now c.args.held.now.automaton.now _ c.requires.held.place c.step_at.ensures.value))
+    (sym (ap (option_map {U = Chars × ℕ} (λ s. (s.0.now, s.2))) c.in-Some.is) ∙ c.step.ensures.step)
     c.at_pair_step.ensures c.in-Some-at_pair_step.is c.loop-step.invariant
 
 pub loop-step-preserved : goal.loop-step-preserved
@@ -29,7 +29,7 @@ loop-step-preserved c =
     each_miss (λ k s. on_both c.args.held.now.first.now c.args.held.now.second.now c.args.held.now.tables.now.cap (costs_in c.args.held.now) c.args.held.now.place c.args.held.now.name.now c.args.pair.now.i c.args.pair.now.j k s (step_on c.args.other.now c.args.pair.now.j s.0) ∷ [])
     (steps_in c.args.held.now.first.now c.args.held.now.automaton.now c.args.pair.now.i) c.loop-step.step
     (c.in-Some.on.now, c.in-Some.to) c.at_pair_step.result
-    (sym (ap (option_map {U = Chars × ℕ} (λ s. (s.0.now, s.1))) c.in-Some.is) ∙ (told c.args.held.now.first.now c.args.held.now.place c.args.pair.now.i c.loop-step.step c.args.held.now.name.now c.args.held.now.automaton.now _ c.requires.held.place c.step_at.ensures.value))
+    (sym (ap (option_map {U = Chars × ℕ} (λ s. (s.0.now, s.2))) c.in-Some.is) ∙ c.step.ensures.step)
     c.at_pair_step.ensures c.in-None-at_pair_step.is c.loop-step.invariant
 
 pub returns : goal.returns
