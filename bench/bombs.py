@@ -104,6 +104,9 @@ def sets():
     yield "2,048 open elements under 32 open entities", {"m.dtd": flat + deep, "a.xml": "<r>" * 64 + "&e0;" + "</r>" * 64}, "validate - m.dtd r a.xml"
     chain = "".join(f"<!ELEMENT e{k} (e{k + 1},e{k + 1})>" for k in range(16)) + "<!ELEMENT e16 EMPTY>"
     yield "a least article of 100,000 elements at most", {"m.dtd": chain}, "least - m.dtd e1 100000"
+    wide = "<!ELEMENT r (" + ",".join(["m"] * 99) + ")><!ELEMENT m (" + ",".join(["c"] * 500) + ")><!ELEMENT c (" + "|".join(f"a{k}" for k in range(1000)) + ")>"
+    leaves = "".join(f"<!ELEMENT a{k} (z)>" for k in range(999)) + "<!ELEMENT a999 EMPTY><!ELEMENT z EMPTY>"
+    yield "a least article of 99,100 elements, half of them with a choice of 1,000", {"m.dtd": wide + leaves}, "least - m.dtd r 100000"
     yield "a separating article of 65,535 elements", {"m.dtd": chain.replace("e16 EMPTY", "e16 (#PCDATA)"), "n.dtd": chain}, "compare - m.dtd - n.dtd e1 100000"
     lines = ["certificate 1 r 0", "element r 1 inf", "state 0 0 inf"]
     yield "a certificate of 268 MB", {"m.dtd": flat, "c.txt": lambda: (b"x" * 99 + b"\n") * 2_684_354 + ("\n".join(lines) + "\npair 0 0 inf\nend\n").encode()[:56]}, "verify c.txt - m.dtd - m.dtd"
