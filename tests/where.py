@@ -21,6 +21,15 @@ BY_HAND = (
     ("two, three and four bytes", "é€😀x\nyé€z".encode(), ["8"], "line 2, column 4\nyé€z\n   ^\n"),
     ("tabs", b"\t\tx", ["2"], "line 1, column 3\n\t\tx\n\t\t^\n"),
     ("byte", "é€x".encode() + b"\xff" + b"y\n", ["6", "bytes"], "line 1, column 4\né€x\n   ^\n"),
+    ("line", MARK + b"<?xml version='1.0'?>\r\nab\rcd\n", ["3", "line"], "line 3, column 1\ncd\n^\n"),
+    ("first line", b"ab", ["1", "line"], "line 1, column 1\nab\n^\n"),
+    ("element", b"<a>\n<b/><c>\n", ["3", "element"], "line 2, column 5\n<b/><c>\n    ^\n"),
+    (
+        "element behind what is none",
+        b"<?xml version='1.0'?>\n<!DOCTYPE a SYSTEM 'a'><!--<x>--><a t='>'>&lt;\n<![CDATA[<y>]]><?p <z>?></b><c/>",
+        ["2", "element"],
+        "line 3, column 29\n<![CDATA[<y>]]><?p <z>?></b><c/>\n" + " " * 28 + "^\n",
+    ),
     ("byte behind a mark", MARK + b"a\nb\x01c", ["6", "bytes"], "line 2, column 2\nb\x01c\n ^\n"),
 )
 LINE_ENDS = ("\n", "\r\n", "\r")
@@ -65,7 +74,7 @@ def main():
             else:
                 failed += 1
                 print(f"failed: {name} {words}: status {status}, output: {output!r}, wanted: {want!r}")
-        for data, words, want in ((b"ab", ["3"], 1), (b"ab", ["3", "bytes"], 1), (b"ab", ["x"], 2), (b"ab", [], 2), (b"ab", ["1", "b"], 2)):
+        for data, words, want in ((b"ab", ["3"], 1), (b"ab", ["3", "bytes"], 1), (b"ab", ["2", "line"], 1), (b"ab", ["0", "line"], 1), (b"<a>", ["2", "element"], 1), (b"<a>", ["0", "element"], 1), (b"ab", ["x"], 2), (b"ab", [], 2), (b"ab", ["1", "b"], 2)):
             status, output = asked(folder, data, words)
             if (status, output) == (want, ""):
                 passed += 1
