@@ -1,6 +1,7 @@
 pub mod Sized
 pub mod TextSizes
 pub mod Examples
+pub mod FirstLetters
 pub mod Joining
 pub mod Walks
 pub mod Seams

@@ -1,5 +1,5 @@
 -- Attributes, read one by one.
-use Rattle.std.proofs.Common.{◌≡◌, ◌∙◌, ℕ, suc, ◌+◌, ◌<◌, List, [], ◌∷◌, ◌++◌, length, map, drop, slice_index_or, Bool, true, false, not, Some, None, Result, Ok, Err, refl, ap, sym, arith, append_assoc, Bor, bytes_eq}
+use Rattle.std.proofs.Common.{◌≡◌, ◌∙◌, ℕ, suc, ◌+◌, ◌<◌, ◌≤◌, List, [], ◌∷◌, ◌++◌, length, map, take, drop, slice_index_or, Bool, true, false, not, Some, None, Result, Ok, Err, refl, ap, sym, arith, append_assoc, Bor, bytes_eq}
 use Rattle.std.specs.Prelude.{if◌then◌else◌, ◌||◌}
 use Rattle.std.specs.List.{list_any, AllByRecursion}
 use Rattle.std.proofs.lemmas.Bool.{cond-true, cond-false}
@@ -20,8 +20,9 @@ use Rattle.article_tree.specs.declared.token.TagAtt.{TagAtt}
 use Rattle.article_tree.specs.declared.stops.ArticleFault.{ArticleFault}
 use Rattle.article_tree.specs.declared.stops.ArticleFault.TheVariants.{Refused, NoMemory}
 use Rattle.std.proofs.Math.Seq.{drop-cons}
-use Rattle.std.proofs.lemmas.List.{length-map}
+use Rattle.std.proofs.lemmas.List.{length-map, drop_all}
 use Rattle.std.proofs.Math.ListN.{get_or-map}
+use Rattle.std.proofs.lemmas.Grind.{take_at_read}
 
 -- these attributes in front of those that are read
 abbrev pub behind_atts : List Attribute → List Attribute × ℕ → Result (List Attribute × ℕ) Fault
@@ -82,15 +83,15 @@ SeenTo atts keys rest =
 pub seen_none : (atts : List Attribute) (keys : List (Bor (List ℕ))) → keys ≡ [] → SeenTo atts keys atts
 seen_none atts keys is = ([], (λ name. ap (list_any (λ k. bytes_eq name k.now)) is), refl)
 
+or_swap : (a b c : Bool) → (a || (b || c)) ≡ (b || (a || c))
+or_swap true true c = refl
+or_swap true false c = refl
+or_swap false true c = refl
+or_swap false false c = refl
+
 any_last : (name : List ℕ) (keys : List (Bor (List ℕ))) (key : Bor (List ℕ)) → list_any (λ k. bytes_eq name k.now) (keys ++ key ∷ []) ≡ (bytes_eq name key.now || list_any (λ k. bytes_eq name k.now) keys)
 any_last name [] key = refl
-any_last name (k ∷ keys) key = ap (λ b. bytes_eq name k.now || b) (any_last name keys key) ∙ swap (bytes_eq name k.now) (bytes_eq name key.now) (list_any (λ k. bytes_eq name k.now) keys)
-  where
-    swap : (a b c : Bool) → (a || (b || c)) ≡ (b || (a || c))
-    swap true true c = refl
-    swap true false c = refl
-    swap false true c = refl
-    swap false false c = refl
+any_last name (k ∷ keys) key = ap (λ b. bytes_eq name k.now || b) (any_last name keys key) ∙ or_swap (bytes_eq name k.now) (bytes_eq name key.now) (list_any (λ k. bytes_eq name k.now) keys)
 
 pub not_true : (a b : Bool) → b ≡ not a → b ≡ false → a ≡ true
 not_true true b e f = refl
@@ -120,10 +121,37 @@ module _ (atts : List Attribute) (keys : List (Bor (List ℕ))) (a : Attribute) 
 pub seen_all : (atts : List Attribute) (keys : List (Bor (List ℕ))) (rest : List Attribute) → SeenTo atts keys rest → rest ≡ [] → None ≡ repeated [] atts
 seen_all atts keys rest h none = ap (repeated h.0) (sym none) ∙ h.2
 
-pub few_differ : (atts : List Attribute) → length atts < 2 → None ≡ repeated [] atts
-few_differ [] few = refl
-few_differ (a ∷ []) few = refl
-few_differ (a ∷ b ∷ atts) few = absurd (omega arith)
+-- the attributes before this one differ in name, and what is left decides
+abbrev pub FewTo : List Attribute → ℕ → Type 0
+FewTo atts k = (earlier : List Attribute) × ((name : List ℕ) → has_attribute (take k atts) name ≡ has_attribute earlier name) × (repeated earlier (drop k atts) ≡ repeated [] atts)
+
+pub few_none : (atts : List Attribute) → FewTo atts 0
+few_none atts = ([], (λ name. refl), refl)
+
+module _ (atts : List Attribute) (k : ℕ) (d : Attribute) (within : k < length atts) (h : FewTo atts k) where
+  few_next : repeated h.0 (slice_index_or atts k d ∷ drop (suc k) atts) ≡ repeated [] atts
+  few_next = ap (repeated h.0) (sym (drop-cons atts k d within)) ∙ h.2
+
+  pub few_twice : has_attribute (take k atts) (slice_index_or atts k d).0 ≡ true → Some (slice_index_or atts k d).0 ≡ repeated [] atts
+  few_twice is =
+      let a = slice_index_or atts k d in
+      sym (cond-true (has_attribute h.0 a.0) (Some a.0) (repeated (a ∷ h.0) (drop (suc k) atts)) (sym (h.1 a.0) ∙ is)) ∙ few_next
+
+  pub few_once : has_attribute (take k atts) (slice_index_or atts k d).0 ≡ false → FewTo atts (k + 1)
+  few_once is =
+      let a = slice_index_or atts k d in
+      let next : suc k ≡ k + 1 = omega arith in (
+        a ∷ h.0,
+        (λ n. ap (λ (t : List Attribute). has_attribute t n) (take_at_read atts k d within).1 ∙ has_last n (take k atts) a ∙ ap (λ b. bytes_eq n a.0 || b) (h.1 n)),
+        ap (λ (n : ℕ). repeated (a ∷ h.0) (drop n atts)) (sym next) ∙ sym (cond-false (has_attribute h.0 a.0) (Some a.0) (repeated (a ∷ h.0) (drop (suc k) atts)) (sym (h.1 a.0) ∙ is)) ∙ few_next,
+      )
+    where
+      has_last : (name : List ℕ) (xs : List Attribute) (a : Attribute) → has_attribute (xs ++ a ∷ []) name ≡ (bytes_eq name a.0 || has_attribute xs name)
+      has_last name [] a = refl
+      has_last name (x ∷ xs) a = ap (λ b. bytes_eq name x.0 || b) (has_last name xs a) ∙ or_swap (bytes_eq name x.0) (bytes_eq name a.0) (has_attribute xs name)
+
+pub few_all : (atts : List Attribute) (k : ℕ) → length atts ≤ k → FewTo atts k → None ≡ repeated [] atts
+few_all atts k over h = ap (repeated h.0) (sym (drop_all k atts over)) ∙ h.2
 
 -- ---- attributes of a tag as the program holds them
 

@@ -1,23 +1,38 @@
 //! What stands at the front of a text, lent, with the rest.
 
-ghost use Rattle.std.specs.Prelude.{◌≡◌, ◌==◌, length, not, option_map, option_and_then};
+ghost use Rattle.std.specs.Prelude.{◌≡◌, ◌==◌, length, not, option_map, option_and_then, true};
 ghost use Rattle.std.specs.List.{list_all};
 ghost use Rattle.std.specs.Option.{option_copied};
 ghost use Rattle.attlist_merge.specs.Grammar as grammar;
+ghost use Rattle.jats_chars.specs.Classes.{is_name_char as name_char};
+ghost use Rattle.jats_chars.specs.Names.{is_name};
 ghost use Rattle.attlist_merge.specs.Reading as lists;
 ghost use Rattle.text_fronts.specs.Fronts as front;
 ghost use Rattle.article_tree.specs.Taking as spec;
 
 use dtd_scanner::begins_reference;
-use jats_chars::is_name_slice;
+use jats_chars::is_name_start;
 use text_fronts::{read_literal, read_space, word};
 
+/// Whether name characters are a Name, which their first one says.
+#[tactic(auto, using(crate::proofs::FirstLetters::name_by_first))]
+fn begins_name(word: &[char]) -> bool
+    requires { list_all name_char word.now ≡ true }
+    ensures { result ≡ is_name word.now }
+{
+    match word.split_first() {
+        None => false,
+        Some((c, _)) => is_name_start(*c),
+    }
+}
+
 /// A Name, and the rest.
+#[tactic(auto, using(crate::proofs::FirstLetters::word_chars))]
 pub fn take_name(text: &[char]) -> Option<(&[char], &[char])>
     ensures { option_map (λ x. (x.0.now, x.1.now)) result ≡ front.read_name text.now }
 {
     let (word, rest) = word(text);
-    if is_name_slice(word) {
+    if begins_name(word) {
         Some((word, rest))
     } else {
         None

@@ -142,7 +142,7 @@ pub fn open_element(
     Ok(())
 }
 
-/// Closes the innermost element.
+/// Closes the innermost element, whose items are kept in no more room than they take.
 pub fn close_element(held: &mut Held) -> Result<(), NoMemory>
     requires apart { EndsApart held.old.items.items }
     requires open { 0 < length held.old.opens.items }
@@ -154,7 +154,8 @@ pub fn close_element(held: &mut Held) -> Result<(), NoMemory>
         None => Ok(()),
         Some(open) => {
             let OpenElement { name, atts, before } = open;
-            let items = std::mem::replace(&mut held.items, before);
+            let mut items = std::mem::replace(&mut held.items, before);
+            items.shrink_to_fit();
             let node = Node {
                 name,
                 atts,

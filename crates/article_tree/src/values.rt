@@ -1,7 +1,8 @@
 //! The values of attributes.
 
-ghost use Rattle.std.specs.Prelude.{◌≡◌, IfOk, IsTrue, map};
-ghost use Rattle.std.specs.List.{AllByRecursion};
+ghost use Rattle.std.specs.Prelude.{◌≡◌, [], IfOk, IsTrue, map};
+ghost use Rattle.std.specs.List.{AllByRecursion, list_all};
+ghost use Rattle.decl_set.specs.ValueEscaped.{stands_for_itself as for_itself};
 ghost use Rattle.decl_set.specs.Values.{value_of as value};
 ghost use Rattle.jats_chars.specs.Names.{is_name};
 ghost use Rattle.article_tree.specs.Outcomes.{Answers, IsRaw, counted, counted_text, standing_of};
@@ -13,7 +14,7 @@ use crate::stops::{ArticleFault, Stand, value_stop};
 use crate::token::TagAtt;
 use decl_set::{DeclSet, value_of};
 use document_trees::AttValues;
-use jats_chars::{Name, NameList, NoMemory, Text};
+use jats_chars::{ListOf, Name, NameList, NoMemory, Text, is_space};
 use pe_expansion::Budget;
 use std::alloc::Global;
 
@@ -28,7 +29,21 @@ pub fn name_of(alloc: Global, name: &[char]) -> Result<Name, NoMemory>
     }
 }
 
-/// The value of an attribute.
+fn stands_for_itself(c: char) -> bool
+    ensures { result ≡ for_itself c }
+{
+    c != '&' && c != '<' && (!is_space(c) || c == ' ')
+}
+
+/// Whether each character stands for itself in a value, so that the text is its own value.
+fn is_itself(text: &[char]) -> bool
+    ensures { result ≡ list_all for_itself text.now }
+{
+    text.iter().all(|c| stands_for_itself(*c))
+}
+
+/// The value of an attribute, whose text is copied where it is its own value.
+#[tactic(auto, using(decl_set::proofs::ValueFacts::value_itself))]
 fn read_value(
     alloc: Global,
     set: &DeclSet,
@@ -42,6 +57,9 @@ fn read_value(
     ensures { Answers (counted_text budget.new.spent) (stopped (standing_of stand.now) at (raw_of att.now).0 (value set.now.entities chain.now budget.old.spent (raw_of att.now).1)) result }
 {
     let raw = Text::from_slice(alloc, att.value)?;
+    if is_itself(att.value) {
+        return Ok(raw);
+    }
     match value_of(alloc, set, chain, &raw, budget) {
         Ok(text) => Ok(text),
         Err(fault) => Err(value_stop(alloc, stand, at, att.name, fault)),
@@ -71,6 +89,14 @@ fn read_attribute(
     }
 }
 
+/// No attributes yet, with room for so many.
+fn room_for(alloc: Global, count: usize) -> Result<Vec<(Name, Text)>, NoMemory>
+    ensures { IfOk result (λ v. v.items ≡ []) }
+{
+    let atts = Vec::with_capacity(alloc, count)?;
+    Ok(atts)
+}
+
 /// The attributes of a tag, each with its value.
 pub fn read_values(
     alloc: Global,
@@ -84,12 +110,12 @@ pub fn read_values(
     requires { AllByRecursion IsRaw (map raw_of atts.now) }
     ensures { Answers (counted budget.new.spent) (spec.values set.now.entities chain.now (standing_of stand.now) at budget.old.spent (map raw_of atts.now)) result }
 {
-    let mut list = AttValues::new(alloc);
+    let mut list = room_for(alloc, atts.len())?;
     for att in atts {
         match read_attribute(alloc, set, chain, stand, at, att, budget) {
             Err(fault) => return Err(fault),
             Ok(pair) => list.push(pair)?,
         }
     }
-    Ok(list)
+    Ok(ListOf::from_vec(list))
 }

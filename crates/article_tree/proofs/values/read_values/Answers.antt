@@ -9,10 +9,10 @@ read_attribute-requires c = first_raw _ _ _ (att_at c.args.atts.now c.loop-att.a
 
 pub returns-in-Err : goal.returns-in-Err
 returns-in-Err c =
-    fails_on _ _ c.in-Err.fault (λ f e. valued_stops c.args.set.now.entities c.args.chain.now (standing_of c.args.stand.now) c.args.at (map raw_of c.args.atts.now) c.args.budget.now.spent c.loop-att.list c.loop-att.budget.spent _ _ _ f
+    fails_on _ _ c.in-Err.fault (λ f e. valued_stops c.args.set.now.entities c.args.chain.now (standing_of c.args.stand.now) c.args.at (map raw_of c.args.atts.now) c.args.budget.now.spent c.loop-att.list.items c.loop-att.budget.spent _ _ _ f
     (att_at c.args.atts.now c.loop-att.att-index _ c.loop-att-test.true) c.loop-att.invariant e) c.in-Err.ensures.value
 
 pub loop-att-preserved : goal.loop-att-preserved
 loop-att-preserved c =
-    valued_on c.args.set.now.entities c.args.chain.now (standing_of c.args.stand.now) c.args.at (map raw_of c.args.atts.now) c.args.budget.now.spent c.loop-att.list c.push.new.self c.loop-att.budget.spent _ _ _ c.in-Ok.pair.0 c.in-Ok.pair.1 c.read_attribute.new.budget.spent
-    (att_at c.args.atts.now c.loop-att.att-index _ c.loop-att-test.true) c.loop-att.invariant c.in-Ok.ensures.name c.in-Ok.ensures.value c.in_ok-push-in-Ok.ensures.ok
+    valued_on c.args.set.now.entities c.args.chain.now (standing_of c.args.stand.now) c.args.at (map raw_of c.args.atts.now) c.args.budget.now.spent c.loop-att.list.items c.push.new.self.items c.loop-att.budget.spent _ _ _ c.in-Ok.pair.0 c.in-Ok.pair.1 c.read_attribute.new.budget.spent
+    (att_at c.args.atts.now c.loop-att.att-index _ c.loop-att-test.true) c.loop-att.invariant c.in-Ok.ensures.name c.in-Ok.ensures.value c.in_ok-push-in-Ok.ensures.items
