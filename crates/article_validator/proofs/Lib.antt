@@ -8,6 +8,7 @@ pub mod Deriving
 pub mod Structure
 pub mod Differing
 pub mod Linking
+pub mod Linkless
 pub mod Valid
 pub mod Unbroken
 pub mod Filled

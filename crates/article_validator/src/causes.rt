@@ -1,22 +1,19 @@
 //! What is wrong in one node by its own declaration, listed.
 
-ghost use Rattle.std.specs.Prelude.{◌≡◌, ◌++◌, ◌∷◌, [], Some, map, OnOk, IfOk, slice_get};
+ghost use Rattle.std.specs.Prelude.{◌≡◌, ◌++◌, ◌∷◌, [], Some, map, option_map, OnOk, IfOk, IfSome, slice_get};
 ghost use Rattle.std.specs.List.{flat_map};
 ghost use Rattle.std.specs.Option.{option_map_or};
 ghost use Rattle.document_trees.specs.Seen.{items_of};
-ghost use Rattle.decl_set.specs.Declarations.{content_in, attributes_in};
 ghost use Rattle.article_validator.specs.Faults.{invalid};
 ghost use Rattle.article_validator.specs.Listing.{one_or_none};
 ghost use Rattle.article_validator.specs.Structure as spec;
 
-use crate::attributes::list_or;
 use crate::content::{derives, is_text_allowed};
 use crate::specified::Specified;
 use crate::{Invalid, InvalidCause, InvalidList};
 use attlist_merge::AttList;
 use attribute_types::in_class;
 use content_models::{Content, text_kind};
-use decl_set::DeclSet;
 use document_trees::{Item, Node};
 use jats_chars::{Name, NoMemory, Text};
 use position_automata::Automaton;
@@ -185,23 +182,23 @@ fn put_declared(
     put_attributes(alloc, list, number, node, atts)
 }
 
-/// Puts the causes of a node by its own declaration behind the others.
+/// Puts the causes of a node by its own declaration behind the others: its content with its automaton, where it is declared,
+/// and its attributes.
 pub fn put_causes(
     alloc: Global,
     list: &mut InvalidList,
     number: u64,
-    set: &DeclSet,
+    declared: Option<(&Content, &Automaton)>,
+    atts: &AttList,
     node: &Node,
 ) -> Result<(), NoMemory>
-    ensures { OnOk result (list.new ≡ list.old ++ map (invalid number node.now.name) (spec.causes_by (content_in set.now node.now.name) (attributes_in set.now node.now.name) node.now)) }
+    requires { IfSome declared (λ d. d.1.now ≡ d.0.now) }
+    ensures { OnOk result (list.new ≡ list.old ++ map (invalid number node.now.name) (spec.causes_by (option_map (λ d. d.0.now) declared.entry) atts.now node.now)) }
 {
-    let none = AttList::new(alloc);
-    let atts = list_or(set.atts_of(&node.name), &none);
-    match set.content_of(&node.name) {
+    match declared {
         None => put(alloc, list, number, node, Some(InvalidCause::Undeclared)),
-        Some(content) => match set.automaton_of(&node.name) {
-            None => Ok(()),
-            Some(automaton) => put_declared(alloc, list, number, node, content, automaton, atts),
-        },
+        Some((content, automaton)) => {
+            put_declared(alloc, list, number, node, content, automaton, atts)
+        }
     }
 }

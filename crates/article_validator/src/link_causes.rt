@@ -8,7 +8,6 @@ ghost use Rattle.article_validator.specs.Faults.{invalid};
 ghost use Rattle.article_validator.specs.Links as spec;
 ghost use Rattle.article_validator.specs.Listing.{one_or_none, kept_causes};
 
-use crate::attributes::list_or;
 use crate::causes::put;
 use crate::links::{Link, default_link_at, keep, specified_link};
 use crate::specified::Specified;
@@ -239,7 +238,9 @@ fn put_defaults(
     Ok(())
 }
 
-fn put_both(
+/// Puts what is wrong with the links of a node that is declared, and has these attributes, behind the others, and keeps its
+/// IDs.
+pub fn put_links(
     alloc: Global,
     list: &mut InvalidList,
     number: u64,
@@ -254,25 +255,4 @@ fn put_both(
 {
     put_specified(alloc, list, number, node, set, all, seen, atts)?;
     put_defaults(alloc, list, number, node, set, all, seen, atts)
-}
-
-/// Puts what is wrong with the links of a node behind the others, and keeps its IDs.
-pub fn put_links(
-    alloc: Global,
-    list: &mut InvalidList,
-    number: u64,
-    node: &Node,
-    set: &DeclSet,
-    all: &IndexSet<Text>,
-    seen: &mut IndexSet<Text>,
-) -> Result<(), NoMemory>
-    ensures causes { OnOk result (list.new ≡ list.old ++ map (invalid number node.now.name) (kept_causes set.now all.now.keys seen.old.keys (spec.links_in set.now node.now))) }
-    ensures kept { OnOk result (seen.new.keys ≡ insert_all bytes_eq seen.old.keys (spec.ids_in set.now node.now)) }
-{
-    let none = AttList::new(alloc);
-    let atts = list_or(set.atts_of(&node.name), &none);
-    match set.content_of(&node.name) {
-        None => Ok(()),
-        Some(_) => put_both(alloc, list, number, node, set, all, seen, atts),
-    }
 }

@@ -10,7 +10,6 @@ ghost use Rattle.article_validator.specs.Faults.{invalid};
 ghost use Rattle.article_validator.specs.Links as spec;
 ghost use Rattle.article_validator.specs.Listing.{one_or_none, kept_causes};
 
-use crate::attributes::list_or;
 use crate::specified::Specified;
 use attlist_merge::{AttList, Definition};
 use attribute_types::{AttType, Preset, collapse, in_class};
@@ -56,12 +55,15 @@ fn default_link<'a>(
 ) -> Option<Link<'a>>
     ensures { one_or_none (option_map (λ l. spec.link l.0.now l.1.now l.2.now) result) ≡ spec.default_link specified.now (name.now, definition.now) }
 {
-    if specified.has(name) {
-        return None;
-    }
     match value_of(&definition.preset) {
         None => None,
-        Some(value) => Some((name, &definition.kind, value)),
+        Some(value) => {
+            if specified.has(name) {
+                None
+            } else {
+                Some((name, &definition.kind, value))
+            }
+        }
     }
 }
 
@@ -138,6 +140,7 @@ fn keep_links(
 }
 
 /// Keeps the IDs of a node.
+#[tactic(auto, using(crate::proofs::Linkless::none_kept))]
 fn keep_node(
     alloc: Global,
     ids: &mut IndexSet<Text>,
@@ -146,11 +149,12 @@ fn keep_node(
 ) -> Result<(), NoMemory>
     ensures { OnOk result (ids.new.keys ≡ insert_all bytes_eq ids.old.keys (spec.ids_in set.now node.now)) }
 {
-    let none = AttList::new(alloc);
-    let atts = list_or(set.atts_of(&node.name), &none);
-    match set.content_of(&node.name) {
+    match set.atts_of(&node.name) {
         None => Ok(()),
-        Some(_) => keep_links(alloc, ids, atts, node),
+        Some(atts) => match set.content_of(&node.name) {
+            None => Ok(()),
+            Some(_) => keep_links(alloc, ids, atts, node),
+        },
     }
 }
 

@@ -1,22 +1,27 @@
 //! All that is wrong in an article.
 
-ghost use Rattle.std.specs.Prelude.{◌≡◌, ◌↔◌, ◌++◌, [], suc, map, OnOk, IfOk, bytes_eq};
+ghost use Rattle.std.specs.Prelude.{◌≡◌, ◌↔◌, ◌++◌, [], suc, map, option_map, OnOk, IfOk, IfSome, bytes_eq};
+ghost use Rattle.std.specs.List.{flat_map};
 ghost use Rattle.indexmap.specs.IndexSet.{insert_all};
 ghost use Rattle.document_trees.specs.Trees.{nodes_in};
 ghost use Rattle.decl_set.specs.Validity.{IsValid};
 ghost use Rattle.article_validator.specs.Faults as spec;
-ghost use Rattle.article_validator.specs.Links.{AreLinked, ids_in, links_in};
+ghost use Rattle.article_validator.specs.Links.{AreLinked, ids_in, ids_of, links_by, links_in};
 ghost use Rattle.article_validator.specs.Listing.{kept_causes, kept_from};
-ghost use Rattle.article_validator.specs.Structure.{causes_in};
+ghost use Rattle.article_validator.specs.Structure.{causes_by, causes_in};
 
+use crate::attributes::list_or;
 use crate::causes::{put, put_causes};
 use crate::link_causes::put_links;
 use crate::links::ids_of;
 use crate::{InvalidCause, InvalidList};
+use attlist_merge::AttList;
+use content_models::Content;
 use decl_set::DeclSet;
 use document_trees::{Node, Nodes};
 use indexmap::IndexSet;
 use jats_chars::{NoMemory, Text};
+use position_automata::Automaton;
 use std::alloc::Global;
 
 fn put_root(alloc: Global, list: &mut InvalidList, root: &Text, node: &Node) -> Result<(), NoMemory>
@@ -39,6 +44,29 @@ fn next_number(number: u64) -> Result<u64, NoMemory>
     }
 }
 
+/// Puts all causes of a node of which this is declared behind the others, and keeps its IDs.
+fn put_by(
+    alloc: Global,
+    list: &mut InvalidList,
+    number: u64,
+    node: &Node,
+    set: &DeclSet,
+    all: &IndexSet<Text>,
+    seen: &mut IndexSet<Text>,
+    declared: Option<(&Content, &Automaton)>,
+    atts: &AttList,
+) -> Result<(), NoMemory>
+    requires { IfSome declared (λ d. d.1.now ≡ d.0.now) }
+    ensures causes { OnOk result (list.new ≡ list.old ++ map (spec.invalid number node.now.name) (causes_by (option_map (λ d. d.0.now) declared.entry) atts.now node.now ++ kept_causes set.now all.now.keys seen.old.keys (links_by (option_map (λ d. d.0.now) declared.entry) atts.now node.now.atts))) }
+    ensures kept { OnOk result (seen.new.keys ≡ insert_all bytes_eq seen.old.keys (flat_map ids_of (links_by (option_map (λ d. d.0.now) declared.entry) atts.now node.now.atts))) }
+{
+    put_causes(alloc, list, number, declared, atts, node)?;
+    match declared {
+        None => Ok(()),
+        Some(_) => put_links(alloc, list, number, node, set, all, seen, atts),
+    }
+}
+
 /// Puts all causes of a node behind the others, and keeps its IDs.
 fn put_node(
     alloc: Global,
@@ -52,8 +80,10 @@ fn put_node(
     ensures causes { OnOk result (list.new ≡ list.old ++ map (spec.invalid number node.now.name) (causes_in set.now node.now ++ kept_causes set.now all.now.keys seen.old.keys (links_in set.now node.now))) }
     ensures kept { OnOk result (seen.new.keys ≡ insert_all bytes_eq seen.old.keys (ids_in set.now node.now)) }
 {
-    put_causes(alloc, list, number, set, node)?;
-    put_links(alloc, list, number, node, set, all, seen)
+    let none = AttList::new(alloc);
+    let atts = list_or(set.atts_of(&node.name), &none);
+    let declared = set.declared_of(&node.name);
+    put_by(alloc, list, number, node, set, all, seen, declared, atts)
 }
 
 #[tactic(auto, using(crate::proofs::Appending::parted))]

@@ -128,6 +128,17 @@ impl DeclSet {
         }
     }
 
+    /// The content of an element with its automaton, seen as the content, or None exactly where the element is not declared.
+    pub fn declared_of(&self, name: &Name) -> Option<(&Content, &Automaton)>
+        ensures content { option_map (λ d. d.0.now) result ≡ content_in self.now name.now }
+        ensures automaton { option_map (λ d. d.1.now) result ≡ content_in self.now name.now }
+    {
+        match self.elements.get(name) {
+            None => None,
+            Some(declared) => Some((&declared.content, &declared.automaton)),
+        }
+    }
+
     /// The attributes that are declared for an element, which itself may be declared or not, or None exactly where there
     /// are none.
     pub fn atts_of(&self, name: &Name) -> Option<&AttList>

@@ -3,7 +3,7 @@ use Rattle.article_validator.specs.Faults.{invalid}
 use Rattle.article_validator.specs.Links.{specified_link, default_link}
 use Rattle.article_validator.proofs.Appending.{on_ok}
 use Rattle.article_validator.proofs.Listing.{keep_both, link_both}
-use Rattle.article_validator.proofs.link_causes.put_both.Goals as goal
+use Rattle.article_validator.proofs.link_causes.put_links.Goals as goal
 
 pub returns-clause-causes : goal.returns-clause-causes
 returns-clause-causes c =
