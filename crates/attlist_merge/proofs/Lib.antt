@@ -8,3 +8,5 @@ pub mod Tokens
 pub mod Sound
 pub mod Complete
 pub mod Taken
+pub mod Seen
+pub mod Named

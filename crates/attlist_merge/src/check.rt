@@ -14,29 +14,25 @@ fn doubled_token(alloc: Global, tokens: &[Text]) -> Result<Option<Text>, NoMemor
 {
     let mut seen = IndexSet::new(alloc);
     for token in tokens {
-        if seen.contains(token) {
+        if seen.contains(&token) {
             return Ok(Some(token.copy(alloc)?));
         }
-        seen.insert(token.copy(alloc)?)?;
+        seen.insert(token)?;
     }
     Ok(None)
-}
-
-fn texts(alloc: Global, names: &[Name]) -> Result<Vec<Text>, NoMemory>
-    ensures { IfOk result (λ v. v.items ≡ names.now) }
-{
-    let mut texts = Vec::new(alloc);
-    for name in names {
-        texts.push(name.text().copy(alloc)?)?;
-    }
-    Ok(texts)
 }
 
 fn doubled_name(alloc: Global, names: &[Name]) -> Result<Option<Text>, NoMemory>
     ensures { IfOk result (λ o. o ≡ spec.again [] names.now) }
 {
-    let texts = texts(alloc, names)?;
-    doubled_token(alloc, texts.as_slice())
+    let mut seen = IndexSet::new(alloc);
+    for name in names {
+        if seen.contains(&name) {
+            return Ok(Some(name.text().copy(alloc)?));
+        }
+        seen.insert(name)?;
+    }
+    Ok(None)
 }
 
 /// The first token of the type that stands twice.

@@ -1,7 +1,8 @@
 //! The body of an attribute-list declaration.
 
-ghost use Rattle.std.specs.Prelude.{◌≡◌, [], ◌<◌, ◌≤◌, length, option_map, IfOk, IfSome};
+ghost use Rattle.std.specs.Prelude.{◌≡◌, [], ◌<◌, ◌≤◌, length, option_map, option_and_then, IfOk, IfSome};
 ghost use Rattle.text_fronts.specs.Fronts as front;
+ghost use Rattle.attribute_types.specs.declared.types.AttType.TheVariants as variant;
 ghost use Rattle.attlist_merge.specs.Reading as spec;
 
 use crate::raw::{RawAtt, RawAttList, RawAtts, RawPreset};
@@ -70,18 +71,50 @@ fn read_tokens(alloc: Global, text: &[char]) -> Result<Option<(TextList, &[char]
     }
 }
 
-/// The tokens as names, or None where one is no Name.
-fn names_of(alloc: Global, tokens: &[Text]) -> Result<Option<NameList>, NoMemory>
-    ensures { IfOk result (λ o. o ≡ spec.names_of tokens.now) }
+/// Names parted by `|` in parentheses, and the rest.
+#[tactic(auto, unfolding(crate::specs::Reading::read_group))]
+fn read_name_group(alloc: Global, text: &[char]) -> Result<Option<(NameList, &[char])>, NoMemory>
+    ensures value { IfOk result (λ o. option_map (λ x. (variant.Notation x.0, x.1.now)) o ≡ option_and_then spec.as_notation (spec.read_group text.now)) }
+    ensures within { IfOk result (λ o. IfSome o (λ x. length x.1.now ≤ length text.now)) }
+{
+    match text.split_first() {
+        Some((c, rest)) => {
+            if *c == '(' {
+                read_names(alloc, rest)
+            } else {
+                Ok(None)
+            }
+        }
+        None => Ok(None),
+    }
+}
+
+/// Names parted by `|` up to `)`, and the rest. None of them is kept as a token too, since there may be millions.
+fn read_names(alloc: Global, text: &[char]) -> Result<Option<(NameList, &[char])>, NoMemory>
+    ensures value { IfOk result (λ o. option_map (λ x. (variant.Notation x.0, x.1.now)) o ≡ option_and_then spec.as_notation (spec.group (length text.now) [] text.now)) }
+    ensures within { IfOk result (λ o. IfSome o (λ x. length x.1.now ≤ length text.now)) }
 {
     let mut names = NameList::new(alloc);
-    for token in tokens {
-        match Name::from_text(alloc, token)? {
+    let mut rest = text;
+    loop {
+        let (token, after) = word(skipped(rest));
+        let Some(name) = Name::from_slice(alloc, token)? else {
+            return Ok(None);
+        };
+        names.push(name)?;
+        match skipped(after).split_first() {
             None => return Ok(None),
-            Some(name) => names.push(name)?,
+            Some((c, after)) => {
+                if *c == ')' {
+                    return Ok(Some((names, after)));
+                }
+                if *c != '|' {
+                    return Ok(None);
+                }
+                rest = after;
+            }
         }
     }
-    Ok(Some(names))
 }
 
 /// The type that a keyword names alone.
@@ -118,12 +151,9 @@ fn read_notation(alloc: Global, text: &[char]) -> Result<Option<(AttType, &[char
 {
     match read_space(text) {
         None => Ok(None),
-        Some(text) => match read_group(alloc, text)? {
+        Some(text) => match read_name_group(alloc, text)? {
             None => Ok(None),
-            Some((tokens, rest)) => match names_of(alloc, tokens.as_slice())? {
-                None => Ok(None),
-                Some(names) => Ok(Some((AttType::Notation(names), rest))),
-            },
+            Some((names, rest)) => Ok(Some((AttType::Notation(names), rest))),
         },
     }
 }
