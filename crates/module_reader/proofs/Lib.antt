@@ -15,6 +15,8 @@ pub mod Naming
 pub mod OpenNames
 pub mod Shifting
 pub mod Asked
+pub mod AskedFor
+pub mod AskedFrom
 pub mod CatalogFiles
 pub mod Contents
 pub mod Declared

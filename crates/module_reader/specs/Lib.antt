@@ -11,6 +11,7 @@ pub mod Frames
 pub mod ContentRead
 pub mod OfChars
 pub mod Loading
+pub mod AskedFor
 pub mod Asking
 pub mod Keywords
 pub mod Counting

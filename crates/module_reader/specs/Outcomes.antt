@@ -1,7 +1,8 @@
 -- What the calls that read answer.
-use Rattle.std.specs.Prelude.{◌≡◌, IsTrue, Result, Ok, Err}
+use Rattle.std.specs.Prelude.{◌≡◌, ◌⊎◌, ℕ, List, IsTrue, Result, Ok, Err}
 use Rattle.jats_fault.specs.Table.{has_number, table}
 use Rattle.jats_fault.specs.declared.fault.Fault.{Fault}
+use Rattle.module_reader.specs.AskedFor.{FromEntry}
 use Rattle.module_reader.specs.declared.faults.ReadFault.{ReadFault}
 use Rattle.module_reader.specs.declared.faults.ReadFault.TheVariants as fault
 use Rattle.jats_fault.specs.declared.numbers.TheConstants as number
@@ -36,3 +37,10 @@ StandsInTable fault.NoMemory = Unit {0}
 abbrev pub IsNumbered : {T : Type 0} → Result T ReadFault → Type 0
 IsNumbered (Ok x) = Unit {0}
 IsNumbered (Err fault) = StandsInTable fault
+
+-- what a reading of an entry asks the store for: the entry first, and no name twice; where memory ran out it may be nothing
+abbrev pub AsksFrom : {T : Type 0} → List (List ℕ) → List (List ℕ) → List ℕ → Result T ReadFault → Type 0
+AsksFrom before now entry (Ok x) = FromEntry before now entry
+AsksFrom before now entry (Err (fault.Refused refusal)) = FromEntry before now entry
+AsksFrom before now entry (Err fault.LoadFailed) = FromEntry before now entry
+AsksFrom before now entry (Err fault.NoMemory) = FromEntry before now entry ⊎ (now ≡ before)

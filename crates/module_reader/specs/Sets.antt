@@ -24,6 +24,10 @@ finished entry s = finished_by entry s.set (end_fault s.set)
 abbrev pub entry_read : Source → List ℕ → State × List ℕ → Result Declarations Fault
 entry_read source entry r = module_read source entry r.0 r.1 >>= finished entry
 
+-- the state in which the reading of an entry ends, with the catalog that is given
+unfoldable pub read_from : Source → List ℕ → Result State Fault
+read_from source entry = module_of source started entry >>= λ r. module_read source entry r.0 r.1
+
 -- the set of an entry, with the catalog that is given
 unfoldable pub set_from : Source → List ℕ → Result Declarations Fault
 set_from source entry = module_of source started entry >>= entry_read source entry

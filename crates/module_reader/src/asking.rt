@@ -5,6 +5,7 @@ ghost use Rattle.jats_chars.specs.Names.{is_name};
 ghost use Rattle.jats_io.specs.Causes.{HasCause};
 ghost use Rattle.pe_expansion.specs.Opening as opening;
 ghost use Rattle.pe_expansion.specs.declared.faults.PeFault.TheVariants as pe;
+ghost use Rattle.module_reader.specs.AskedFor.{Asks};
 ghost use Rattle.module_reader.specs.declared.refusals.Stop.TheVariants as memory;
 ghost use Rattle.module_reader.specs.Asking.{HasText, IsOn, IsOpened, IsWanted, IsWritten, OpensIn, OpensOnce, Turns, WritesOnce, stopped, written};
 ghost use Rattle.module_reader.specs.Counting.{Counts};
@@ -44,6 +45,7 @@ fn want<S: Store>(
     ensures told { IfSome (S.holds store.old) (λ files. Moves (stopped (record { files = files; catalog = catalog.now }) standing.now at state.old fault) state.new result) }
     ensures goes_on { OnOk result (GoesOn state.old state.new) }
     ensures loads { OnOk result (LoadsOnly state.old state.new) }
+    ensures asks { Asks state.old.modules state.new.modules (S.asked store.old) (S.asked store.new) result }
 {
     match fault {
         PeFault::NotLoaded(name) => {
@@ -102,6 +104,7 @@ fn write_turn<S: Store>(
     ensures told { IfSome (S.holds store.old) (λ files. Turns (record { files = files; catalog = catalog.now }) standing.now at (written manner state.old.bound chain.now state.old.spent text.now) state.old state.new result) }
     ensures goes_on { OnOk result (GoesOn state.old state.new) }
     ensures on { IfOk result (λ o. IfNone o (IsOn manner chain.now text.now state.new paused.new)) }
+    ensures asks { Asks state.old.modules state.new.modules (S.asked store.old) (S.asked store.new) result }
 {
     match write_once(alloc, manner, chain, state, paused, text) {
         Ok(text) => Ok(Some(text)),
@@ -130,6 +133,7 @@ fn write<S: Store>(
     ensures told { IfSome (S.holds store.old) (λ files. Gives (counted (asking (record { files = files; catalog = catalog.now }) standing.now at (λ t. written manner t.bound chain.now t.spent text.now) state.old)) state.new result) }
     ensures goes_on { OnOk result (GoesOn state.old state.new) }
     ensures chars { StaysOfChars state.old text.now result }
+    ensures asks { Asks state.old.modules state.new.modules (S.asked store.old) (S.asked store.new) result }
 {
     let mut paused = PausedExpansion::new(alloc, manner, state.spent);
     let mut left = state.bound.len();
@@ -194,6 +198,7 @@ fn open_turn<S: Store>(
     ensures answer { IfOk result (λ o. IfSome o (λ x. IsOpened (opening.opening state.old.bound chain.now state.old.spent name.now) state.old state.new name.now x)) }
     ensures told { IfSome (S.holds store.old) (λ files. Turns (record { files = files; catalog = catalog.now }) standing.now at (opening.opening state.old.bound chain.now state.old.spent name.now) state.old state.new result) }
     ensures goes_on { OnOk result (GoesOn state.old state.new) }
+    ensures asks { Asks state.old.modules state.new.modules (S.asked store.old) (S.asked store.new) result }
 {
     match open_once(alloc, chain, state, name) {
         Ok(opened) => Ok(Some(opened)),
@@ -222,6 +227,7 @@ pub fn expand_body<S: Store>(
     ensures told { IfSome (S.holds store.old) (λ files. Gives (counted (reading.expanded (record { files = files; catalog = catalog.now }) chain.now standing.now at state.old body.now)) state.new result) }
     ensures goes_on { OnOk result (GoesOn state.old state.new) }
     ensures chars { StaysOfChars state.old body.now result }
+    ensures asks { Asks state.old.modules state.new.modules (S.asked store.old) (S.asked store.new) result }
 {
     write(
         alloc,
@@ -254,6 +260,7 @@ pub fn expand_literal<S: Store>(
     ensures told { IfSome (S.holds store.old) (λ files. Gives (counted (reading.valued (record { files = files; catalog = catalog.now }) chain.now standing.now at state.old quoted.now)) state.new result) }
     ensures goes_on { OnOk result (GoesOn state.old state.new) }
     ensures chars { StaysOfChars state.old quoted.now result }
+    ensures asks { Asks state.old.modules state.new.modules (S.asked store.old) (S.asked store.new) result }
 {
     write(
         alloc,
@@ -288,6 +295,7 @@ pub fn open_entity<S: Store>(
     ensures found { IfOk result (λ o. HasText state.new.bound o.number name.now) }
     ensures counts { IfOk result (λ o. Counts chain.now state.old.spent state.new o.number) }
     ensures goes_on { OnOk result (GoesOn state.old state.new) }
+    ensures asks { Asks state.old.modules state.new.modules (S.asked store.old) (S.asked store.new) result }
 {
     let mut left = state.bound.len();
     'questions: loop {

@@ -108,6 +108,7 @@ fn declare_read(
     ensures load { LoadFailed result → ⊥ }
     ensures absence { IsAbsence result → ⊥ }
     ensures goes_on { OnOk result (GoesOn state.old state.new) }
+    ensures modules { state.new.modules ≡ state.old.modules }
 {
     match read_content(alloc, text) {
         Err(fault) => Err(content_stop(alloc, standing, at, &name, fault)),
@@ -130,6 +131,7 @@ fn put_element(
     ensures load { LoadFailed result → ⊥ }
     ensures absence { IsAbsence result → ⊥ }
     ensures goes_on { OnOk result (GoesOn state.old state.new) }
+    ensures modules { state.new.modules ≡ state.old.modules }
 {
     match state.set.declare_element(name, content) {
         Ok(()) => Ok(()),
@@ -152,6 +154,7 @@ pub fn declare_element(
     ensures load { LoadFailed result → ⊥ }
     ensures absence { IsAbsence result → ⊥ }
     ensures goes_on { OnOk result (GoesOn state.old state.new) }
+    ensures modules { state.new.modules ≡ state.old.modules }
 {
     if is_too_deep(body.as_slice()) {
         return Err(no_details(alloc, standing, at, numbers::GROUP_TOO_DEEP));
@@ -176,6 +179,7 @@ fn put_attributes(
     ensures load { LoadFailed result → ⊥ }
     ensures absence { IsAbsence result → ⊥ }
     ensures goes_on { OnOk result (GoesOn state.old state.new) }
+    ensures modules { state.new.modules ≡ state.old.modules }
 {
     let mut budget = Budget { spent: state.spent };
     match state.set.declare_attributes(raw, &mut budget) {
@@ -203,6 +207,7 @@ pub fn declare_attributes(
     ensures load { LoadFailed result → ⊥ }
     ensures absence { IsAbsence result → ⊥ }
     ensures goes_on { OnOk result (GoesOn state.old state.new) }
+    ensures modules { state.new.modules ≡ state.old.modules }
 {
     match parse_attlist(alloc, body) {
         Err(ListFault::NoMemory) => Err(Stop::NoMemory),
@@ -226,6 +231,7 @@ fn put_notation(
     ensures load { LoadFailed result → ⊥ }
     ensures absence { IsAbsence result → ⊥ }
     ensures goes_on { OnOk result (GoesOn state.old state.new) }
+    ensures modules { state.new.modules ≡ state.old.modules }
 {
     match state.set.declare_notation(name, ids) {
         Ok(()) => Ok(()),
@@ -248,6 +254,7 @@ pub fn declare_notation(
     ensures load { LoadFailed result → ⊥ }
     ensures absence { IsAbsence result → ⊥ }
     ensures goes_on { OnOk result (GoesOn state.old state.new) }
+    ensures modules { state.new.modules ≡ state.old.modules }
 {
     match read_notation(alloc, body.as_slice())? {
         None => Err(no_details(alloc, standing, at, numbers::MALFORMED)),

@@ -5,6 +5,7 @@ ghost use Rattle.decl_set.specs.Asked.{are_chars, are_entity_ids, is_entity};
 ghost use Rattle.decl_set.specs.Declarations.{entity_in};
 ghost use Rattle.jats_io.specs.Causes.{HasCause};
 ghost use Rattle.pe_expansion.specs.Bound.{text_bound, text_in};
+ghost use Rattle.module_reader.specs.AskedFor.{Asks};
 ghost use Rattle.module_reader.specs.Moves.{AreChars, Moves, GoesOn, has_chars};
 ghost use Rattle.module_reader.specs.OfChars.{IsOfChars};
 ghost use Rattle.module_reader.specs.Endings.{LoadFailed, IsAbsence};
@@ -32,6 +33,7 @@ fn bind(state: &mut State, name: Name, text: PeText) -> Result<(), Stop>
     ensures load { LoadFailed result → ⊥ }
     ensures absence { IsAbsence result → ⊥ }
     ensures goes_on { OnOk result (GoesOn state.old state.new) }
+    ensures modules { state.new.modules ≡ state.old.modules }
 {
     match state.bound.bind(name, text) {
         Ok(_) => Ok(()),
@@ -58,6 +60,7 @@ fn bind_value<S: Store>(
     ensures absences { HasCause (S.absences store.old) (S.absences store.new) (IsAbsence result) }
     ensures told { IfSome (S.holds store.old) (λ files. Moves (spec.bound_by (record { files = files; catalog = catalog.now }) chain.now standing.now at state.old name (RawDef.Value raw.now)) state.new result) }
     ensures goes_on { OnOk result (GoesOn state.old state.new) }
+    ensures asks { Asks state.old.modules state.new.modules (S.asked store.old) (S.asked store.new) result }
 {
     match expand_literal(
         alloc,
@@ -86,6 +89,7 @@ fn bind_outer(
     ensures load { LoadFailed result → ⊥ }
     ensures absence { IsAbsence result → ⊥ }
     ensures goes_on { OnOk result (GoesOn state.old state.new) }
+    ensures modules { state.new.modules ≡ state.old.modules }
 {
     let base = standing.inmost.copy(alloc)?;
     bind(
@@ -118,6 +122,7 @@ fn bind_entity<S: Store>(
     ensures absences { HasCause (S.absences store.old) (S.absences store.new) (IsAbsence result) }
     ensures told { IfSome (S.holds store.old) (λ files. Moves (spec.bound_by (record { files = files; catalog = catalog.now }) chain.now standing.now at state.old name def) state.new result) }
     ensures goes_on { OnOk result (GoesOn state.old state.new) }
+    ensures asks { Asks state.old.modules state.new.modules (S.asked store.old) (S.asked store.new) result }
 {
     match def {
         RawDef::Value(raw) => bind_value(
@@ -136,6 +141,7 @@ fn put(state: &mut State, name: Name, def: EntityDef) -> Result<(), Stop>
     ensures load { LoadFailed result → ⊥ }
     ensures absence { IsAbsence result → ⊥ }
     ensures goes_on { OnOk result (GoesOn state.old state.new) }
+    ensures modules { state.new.modules ≡ state.old.modules }
 {
     match state.set.declare_entity(name, def) {
         Ok(_) => Ok(()),
@@ -162,6 +168,7 @@ fn put_value<S: Store>(
     ensures absences { HasCause (S.absences store.old) (S.absences store.new) (IsAbsence result) }
     ensures told { IfSome (S.holds store.old) (λ files. Moves (spec.declared_by (record { files = files; catalog = catalog.now }) chain.now standing.now at state.old name (RawDef.Value raw.now)) state.new result) }
     ensures goes_on { OnOk result (GoesOn state.old state.new) }
+    ensures asks { Asks state.old.modules state.new.modules (S.asked store.old) (S.asked store.new) result }
 {
     match expand_literal(
         alloc,
@@ -197,6 +204,7 @@ fn put_entity<S: Store>(
     ensures absences { HasCause (S.absences store.old) (S.absences store.new) (IsAbsence result) }
     ensures told { IfSome (S.holds store.old) (λ files. Moves (spec.declared_by (record { files = files; catalog = catalog.now }) chain.now standing.now at state.old name def) state.new result) }
     ensures goes_on { OnOk result (GoesOn state.old state.new) }
+    ensures asks { Asks state.old.modules state.new.modules (S.asked store.old) (S.asked store.new) result }
 {
     match def {
         RawDef::Value(raw) => put_value(
@@ -237,6 +245,7 @@ fn declare_read<S: Store>(
     ensures absences { HasCause (S.absences store.old) (S.absences store.new) (IsAbsence result) }
     ensures told { IfSome (S.holds store.old) (λ files. Moves (spec.entity_new (record { files = files; catalog = catalog.now }) chain.now standing.now at state.old entity entity.parameter) state.new result) }
     ensures goes_on { OnOk result (GoesOn state.old state.new) }
+    ensures asks { Asks state.old.modules state.new.modules (S.asked store.old) (S.asked store.new) result }
 {
     let RawEntity {
         parameter,
@@ -275,6 +284,7 @@ pub fn declare_entity<S: Store>(
     ensures absences { HasCause (S.absences store.old) (S.absences store.new) (IsAbsence result) }
     ensures told { IfSome (S.holds store.old) (λ files. Moves (spec.entity_declared (record { files = files; catalog = catalog.now }) chain.now standing.now at state.old body.now) state.new result) }
     ensures goes_on { OnOk result (GoesOn state.old state.new) }
+    ensures asks { Asks state.old.modules state.new.modules (S.asked store.old) (S.asked store.new) result }
 {
     match read_entity(alloc, body.as_slice())? {
         None => Err(refused(alloc, standing, at, numbers::MALFORMED, Details::new(alloc))),

@@ -3,6 +3,7 @@
 ghost use Rattle.std.specs.Prelude.{◌≡◌, IfSome, IsTrue, OnOk};
 ghost use Rattle.decl_set.specs.Asked.{are_chars};
 ghost use Rattle.jats_io.specs.Causes.{HasCause};
+ghost use Rattle.module_reader.specs.AskedFor.{Asks};
 ghost use Rattle.module_reader.specs.Moves.{AreChars, GoesOn, Moves};
 ghost use Rattle.module_reader.specs.Endings.{LoadFailed, IsAbsence};
 ghost use Rattle.module_reader.specs.Reading as spec;
@@ -38,6 +39,7 @@ fn declare<S: Store>(
     ensures absences { HasCause (S.absences store.old) (S.absences store.new) (IsAbsence result) }
     ensures told { IfSome (S.holds store.old) (λ files. Moves (spec.declared (record { files = files; catalog = catalog.now }) chain.now standing.now at kind state.old body.now) state.new result) }
     ensures goes_on { OnOk result (GoesOn state.old state.new) }
+    ensures asks { Asks state.old.modules state.new.modules (S.asked store.old) (S.asked store.new) result }
 {
     match kind {
         ItemKind::ElementDecl => declare_element(alloc, standing, at, state, body),
@@ -73,6 +75,7 @@ pub fn declare_expanded<S: Store>(
     ensures absences { HasCause (S.absences store.old) (S.absences store.new) (IsAbsence result) }
     ensures told { IfSome (S.holds store.old) (λ files. Moves (spec.declaration (record { files = files; catalog = catalog.now }) chain.now standing.now at kind state.old body.now) state.new result) }
     ensures goes_on { OnOk result (GoesOn state.old state.new) }
+    ensures asks { Asks state.old.modules state.new.modules (S.asked store.old) (S.asked store.new) result }
 {
     match expand_body(alloc, store, catalog, chain, standing, at, state, body) {
         Err(fault) => Err(fault),

@@ -9,6 +9,7 @@ ghost use Rattle.entity_catalog.specs.Resolution as resolution;
 ghost use Rattle.jats_chars.specs.Decoded.{text_of};
 ghost use Rattle.jats_io.specs.Causes.{HasCause};
 ghost use Rattle.pe_expansion.specs.Bound.{IsOuter, text_bound, text_in};
+ghost use Rattle.module_reader.specs.AskedFor.{Asks, AsksOne};
 ghost use Rattle.module_reader.specs.Loading.{Adds, FindsModule, LoadsModule, IsModule, NamesFile, giving};
 ghost use Rattle.module_reader.specs.Moves.{GoesOn, LoadsOnly, Moves};
 ghost use Rattle.module_reader.specs.Endings.{LoadFailed, IsAbsence, Reads, Refuses};
@@ -143,6 +144,8 @@ fn load_new<S: Store>(
     ensures absences { HasCause (S.absences store.old) (S.absences store.new) (IsAbsence result) }
     ensures told { IfSome (S.holds store.old) (λ files. (named : Named) → LoadsModule (spec.new_module (record { files = files; catalog = named }) state.old name.now) state.new name.now result) }
     ensures adds { IfOk result (λ k. Adds state.old state.new name.now k) }
+    ensures one { AsksOne state.old.modules (S.asked store.old) (S.asked store.new) name.now result }
+    ensures asks { Asks state.old.modules state.new.modules (S.asked store.old) (S.asked store.new) result }
 {
     if state.modules.len() >= MODULES {
         return Err(refusal(alloc, numbers::SET_OVER, name, 0, Details::new(alloc)));
@@ -177,6 +180,8 @@ pub fn load_module<S: Store>(
     ensures bound { OnOk result (state.new.bound ≡ state.old.bound) }
     ensures spent { OnOk result (state.new.spent ≡ state.old.spent) }
     ensures goes_on { OnOk result (GoesOn state.old state.new) }
+    ensures one { AsksOne state.old.modules (S.asked store.old) (S.asked store.new) name.now result }
+    ensures asks { Asks state.old.modules state.new.modules (S.asked store.old) (S.asked store.new) result }
 {
     match state.modules.number_of(name) {
         Some(number) => Ok(number),
@@ -285,6 +290,7 @@ fn load_file<S: Store>(
     ensures told { IfSome (S.holds store.old) (λ files. (named : Named) → Moves (giving (record { files = files; catalog = named }) state.old file.now name.now) state.new result) }
     ensures goes_on { OnOk result (GoesOn state.old state.new) }
     ensures loads { OnOk result (LoadsOnly state.old state.new) }
+    ensures asks { Asks state.old.modules state.new.modules (S.asked store.old) (S.asked store.new) result }
 {
     match load_module(alloc, store, state, file) {
         Err(fault) => Err(fault),
@@ -313,6 +319,7 @@ pub fn load_outer<S: Store>(
     ensures told { IfSome (S.holds store.old) (λ files. Moves (spec.loaded (record { files = files; catalog = catalog.now }) standing.now at state.old name.now) state.new result) }
     ensures goes_on { OnOk result (GoesOn state.old state.new) }
     ensures loads { OnOk result (LoadsOnly state.old state.new) }
+    ensures asks { Asks state.old.modules state.new.modules (S.asked store.old) (S.asked store.new) result }
 {
     match file_wanted(alloc, catalog, standing, at, state, name) {
         Err(fault) => Err(fault),

@@ -3,6 +3,7 @@
 ghost use Rattle.std.specs.Prelude.{◌≡◌, ◌+◌, ◌<◌, ◌≤◌, [], IfSome, IsSome, None, OnOk, length, slice_get};
 ghost use Rattle.dtd_scanner.specs.Items.{shortest};
 ghost use Rattle.jats_io.specs.Causes.{HasCause};
+ghost use Rattle.module_reader.specs.AskedFor.{Asks, AsksTo};
 ghost use Rattle.module_reader.specs.Frames.{Advances, Ends, IsSound, Nears, Stands, Stepped, Turns, current, from, text_found};
 ghost use Rattle.module_reader.specs.Moves.{AreChars};
 ghost use Rattle.module_reader.specs.Endings.{LoadFailed, IsAbsence, Reads, Refuses};
@@ -56,6 +57,7 @@ fn pass<S: Store>(
     ensures absences { HasCause (S.absences store.old) (S.absences store.new) (IsAbsence result) }
     ensures told { IfSome (S.holds store.old) (λ files. Stepped (record { files = files; catalog = catalog.now }) work.old work.new result) }
     ensures advances { OnOk result (Advances work.old work.new) }
+    ensures asks { Asks work.old.state.modules work.new.state.modules (S.asked store.old) (S.asked store.new) result }
 {
     match kind {
         ItemKind::Reference => pass_reference(alloc, store, catalog, work, next),
@@ -84,6 +86,7 @@ fn step<S: Store>(
     ensures absences { HasCause (S.absences store.old) (S.absences store.new) (IsAbsence result) }
     ensures told { IfSome (S.holds store.old) (λ files. Stepped (record { files = files; catalog = catalog.now }) work.old work.new result) }
     ensures advances { OnOk result (Advances work.old work.new) }
+    ensures asks { Asks work.old.state.modules work.new.state.modules (S.asked store.old) (S.asked store.new) result }
 {
     if ends_section(work) {
         close_section(work);
@@ -108,6 +111,7 @@ fn turn<S: Store>(
     ensures absences { HasCause (S.absences store.old) (S.absences store.new) (IsAbsence result) }
     ensures told { IfSome (S.holds store.old) (λ files. Turns (record { files = files; catalog = catalog.now }) work.old work.new result) }
     ensures nears { Nears work.old work.new result }
+    ensures asks { Asks work.old.state.modules work.new.state.modules (S.asked store.old) (S.asked store.new) result }
 {
     if work.frame.at < text_read(work).len() {
         match step(alloc, store, catalog, work) {
@@ -131,6 +135,7 @@ fn run<S: Store>(
     ensures faults { HasCause (S.faults store.old) (S.faults store.new) (LoadFailed result) }
     ensures absences { HasCause (S.absences store.old) (S.absences store.new) (IsAbsence result) }
     ensures told { IfSome (S.holds store.old) (λ files. Ends (record { files = files; catalog = catalog.now }) work.old work.new result) }
+    ensures asks { Asks work.old.state.modules work.new.state.modules (S.asked store.old) (S.asked store.new) result }
 {
     let mut more = true;
     while more {
@@ -156,6 +161,7 @@ pub fn read_text<S: Store>(
     ensures faults { HasCause (S.faults store.old) (S.faults store.new) (LoadFailed result) }
     ensures absences { HasCause (S.absences store.old) (S.absences store.new) (IsAbsence result) }
     ensures told { IfSome (S.holds store.old) (λ files. Reads (from (record { files = files; catalog = catalog.now }) (record { text = text_found (slice_get state.modules 0); names = []; standing = standing; at = 0; sections = [] }) state) result) }
+    ensures asks { AsksTo state.modules (S.asked store.old) (S.asked store.new) result }
 {
     let frame = Frame {
         text: None,

@@ -4,6 +4,7 @@ ghost use Rattle.std.specs.Prelude.{◌≡◌, ◌∷◌, ◌++◌, ◌+◌, ◌
 ghost use Rattle.dtd_scanner.specs.Items.{shortest};
 ghost use Rattle.dtd_scanner.specs.declared.item.ItemKind.TheVariants.{Reference, SectionStart};
 ghost use Rattle.jats_io.specs.Causes.{HasCause};
+ghost use Rattle.module_reader.specs.AskedFor.{Asks};
 ghost use Rattle.module_reader.specs.Frames.{Advances, IsSound, Stands, Stepped, current, is_declaration};
 ghost use Rattle.module_reader.specs.Endings.{LoadFailed, IsAbsence};
 
@@ -37,6 +38,7 @@ pub fn pass_declaration<S: Store>(
     ensures absences { HasCause (S.absences store.old) (S.absences store.new) (IsAbsence result) }
     ensures told { IfSome (S.holds store.old) (λ files. Stepped (record { files = files; catalog = catalog.now }) work.old work.new result) }
     ensures advances { OnOk result (Advances work.old work.new) }
+    ensures asks { Asks work.old.state.modules work.new.state.modules (S.asked store.old) (S.asked store.new) result }
 {
     let body = contents_here(alloc, work, kind, next)?;
     let at = work.frame.at;
@@ -75,6 +77,7 @@ pub fn pass_section<S: Store>(
     ensures absences { HasCause (S.absences store.old) (S.absences store.new) (IsAbsence result) }
     ensures told { IfSome (S.holds store.old) (λ files. Stepped (record { files = files; catalog = catalog.now }) work.old work.new result) }
     ensures advances { OnOk result (Advances work.old work.new) }
+    ensures asks { Asks work.old.state.modules work.new.state.modules (S.asked store.old) (S.asked store.new) result }
 {
     let keyword = contents_here(alloc, work, ItemKind::SectionStart, next)?;
     let at = work.frame.at;
@@ -109,6 +112,7 @@ pub fn pass_reference<S: Store>(
     ensures absences { HasCause (S.absences store.old) (S.absences store.new) (IsAbsence result) }
     ensures told { IfSome (S.holds store.old) (λ files. Stepped (record { files = files; catalog = catalog.now }) work.old work.new result) }
     ensures advances { OnOk result (Advances work.old work.new) }
+    ensures asks { Asks work.old.state.modules work.new.state.modules (S.asked store.old) (S.asked store.new) result }
 {
     let name = name_here(alloc, work, next)?;
     let at = work.frame.at;

@@ -1,10 +1,13 @@
 //! Sets from a store.
 
-ghost use Rattle.std.specs.Prelude.{◌≡◌, [], IfOk, IfSome, IsSome, None, slice_get};
+ghost use Rattle.std.specs.Prelude.{◌≡◌, [], IfOk, OnOk, Ok, IfSome, IsSome, None, slice_get};
 ghost use Rattle.jats_io.specs.Causes.{HasCause};
 ghost use Rattle.decl_set.specs.Asked.{IsKept};
 ghost use Rattle.decl_set.specs.Declaring.{end_fault};
+ghost use Rattle.module_reader.specs.AskedFor.{AsksAll, AsksFor, AsksFrom, AsksSome};
 ghost use Rattle.module_reader.specs.Moves.{AreChars};
+ghost use Rattle.module_reader.specs.Reading.{module_read};
+ghost use Rattle.module_reader.specs.declared.state.State.{State};
 ghost use Rattle.module_reader.specs.Endings.{LoadFailed, IsAbsence, Reads, Refuses};
 ghost use Rattle.module_reader.specs.Outcomes as outcome;
 ghost use Rattle.module_reader.specs.Sets as spec;
@@ -102,6 +105,8 @@ fn read_entry<S: Store>(
     ensures absences { HasCause (S.absences store.old) (S.absences store.new) (IsAbsence result) }
     ensures told { IfSome (S.holds store.old) (λ files. Reads (spec.entry_read (record { files = files; catalog = catalog.now }) entry.now (state, text_found (slice_get state.modules 0))) result) }
     ensures sound { IfOk result (λ set. IsKept set × (end_fault set ≡ None)) }
+    ensures asks { AsksSome state.modules (S.asked store.old) (S.asked store.new) result }
+    ensures all { IfSome (S.holds store.old) (λ files. OnOk result ((t : State) × (module_read (record { files = files; catalog = catalog.now }) entry.now state (text_found (slice_get state.modules 0)) ≡ Ok t) × AsksFor state.modules t.modules (S.asked store.old) (S.asked store.new))) }
 {
     let standing = module_standing(alloc, entry)?;
     match read_text(alloc, store, catalog, state, standing) {
@@ -122,6 +127,8 @@ fn set_of_entry<S: Store>(
     ensures absences { HasCause (S.absences store.old) (S.absences store.new) (IsAbsence result) }
     ensures told { IfSome (S.holds store.old) (λ files. Reads (spec.set_from (record { files = files; catalog = catalog.now }) entry.now) result) }
     ensures sound { IfOk result (λ set. IsKept set × (end_fault set ≡ None)) }
+    ensures asks { AsksFrom (S.asked store.old) (S.asked store.new) entry.now result }
+    ensures all { IfSome (S.holds store.old) (λ files. OnOk result (AsksAll (spec.read_from (record { files = files; catalog = catalog.now }) entry.now) (S.asked store.old) (S.asked store.new))) }
 {
     let mut state = begun(alloc);
     match load_module(alloc, store, &mut state, entry) {
@@ -148,6 +155,8 @@ pub fn read_set<S: Store>(
     ensures told { IfSome (S.holds store.old) (λ files. outcome.Reads (spec.set_from (record { files = files; catalog = catalog.now }) entry.now) result) }
     ensures sound { IfOk result (λ set. IsKept set × (end_fault set ≡ None)) }
     ensures numbered { outcome.IsNumbered result }
+    ensures asks { outcome.AsksFrom (S.asked store.old) (S.asked store.new) entry.now result }
+    ensures all { IfSome (S.holds store.old) (λ files. OnOk result (AsksAll (spec.read_from (record { files = files; catalog = catalog.now }) entry.now) (S.asked store.old) (S.asked store.new))) }
 {
     match set_of_entry(alloc, store, catalog, entry) {
         Ok(set) => Ok(set),

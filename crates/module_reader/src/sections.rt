@@ -81,6 +81,7 @@ fn go_behind(work: &mut Work, start: Start, next: usize) -> Result<(), NoMemory>
     ensures same { OnOk result (IsMoved work.old work.new) }
     ensures at { OnOk result (work.new.frame.at ≡ end_of start next) }
     ensures sections { OnOk result (work.new.frame.sections.items ≡ with_start start work.old.frame.sections.items work.old.frame.at) }
+    ensures modules { work.new.state.modules ≡ work.old.state.modules }
 {
     match start {
         Start::Included => {
@@ -102,6 +103,7 @@ pub fn begin_section(alloc: Global, work: &mut Work, next: usize, word: &Text) -
     ensures begins { Begins work.old work.new next (trimmed word.now) result }
     ensures load { LoadFailed result → ⊥ }
     ensures absence { IsAbsence result → ⊥ }
+    ensures modules { work.new.state.modules ≡ work.old.state.modules }
 {
     let at = work.frame.at;
     match start_of(alloc, text_read(work), &work.frame.standing, at, next, word) {

@@ -19,6 +19,7 @@ pub fn skip(work: &mut Work, kind: ItemKind, next: usize)
     requires stands { Stands (current work.old) kind next }
     ensures steps { (source : Source) → left_of source work.new ≡ left_of source work.old }
     ensures advances { Advances work.old work.new }
+    ensures modules { work.new.state.modules ≡ work.old.state.modules }
 {
     work.frame.at = next;
 }
@@ -30,6 +31,7 @@ pub fn close_section(work: &mut Work)
     requires ends { spec.ends_section (current work.old).sections (rest_of (current work.old)) ≡ true }
     ensures steps { (source : Source) → left_of source work.new ≡ left_of source work.old }
     ensures advances { Advances work.old work.new }
+    ensures modules { work.new.state.modules ≡ work.old.state.modules }
 {
     let _start = work.frame.sections.pop();
     work.frame.at += 3;
@@ -43,6 +45,7 @@ fn resume(work: &mut Work) -> Result<bool, Stop>
     ensures nears { Nears work.old work.new result }
     ensures load { LoadFailed result → ⊥ }
     ensures absence { IsAbsence result → ⊥ }
+    ensures modules { work.new.state.modules ≡ work.old.state.modules }
 {
     match work.waiting.pop() {
         None => Ok(false),
@@ -62,6 +65,7 @@ pub fn finish_text(alloc: Global, work: &mut Work) -> Result<bool, Stop>
     ensures nears { Nears work.old work.new result }
     ensures load { LoadFailed result → ⊥ }
     ensures absence { IsAbsence result → ⊥ }
+    ensures modules { work.new.state.modules ≡ work.old.state.modules }
 {
     match work.frame.sections.last() {
         Some(start) => Err(not_ended(alloc, &work.frame.standing, *start)),

@@ -1,3 +1,4 @@
+use Rattle.module_reader.proofs.AskedFor.{asked_given}
 use Rattle.module_reader.proofs.Outer.{gives_on, gives_only, moves_given, moves_unloaded}
 use Rattle.module_reader.proofs.loading.load_file.Goals as goal
 
@@ -14,3 +15,7 @@ returns-in-Ok-give_text-clause-goes_on g c =
 pub returns-in-Ok-give_text-clause-loads : goal.returns-in-Ok-give_text-clause-loads
 returns-in-Ok-give_text-clause-loads g c =
     gives_only c.args.state.now c.load_module.new.state c.give_text.new.state c.args.file.now c.args.name.now c.in-Ok.number c.requires.wanted c.in-Ok.ensures.bound c.in-Ok.ensures.spent c.in-Ok.ensures.found c.in-Ok-give_text.ensures
+
+pub returns-in-Ok-give_text-clause-asks : goal.returns-in-Ok-give_text-clause-asks
+returns-in-Ok-give_text-clause-asks g c =
+    asked_given c.args.state.now c.load_module.new.state c.give_text.new.state c.args.file.now c.args.name.now c.in-Ok.number c.in-Ok.ensures.found c.in-Ok-give_text.ensures c.in-Ok.ensures.asks
