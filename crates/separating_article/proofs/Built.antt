@@ -6,6 +6,7 @@ use Rattle.tree_costs.specs.Leasts.{place_of}
 use Rattle.tree_costs.proofs.Places.{stands_at, has_place}
 use Rattle.decl_set.specs.Declarations.{Element}
 use Rattle.separating_article.specs.Building.{HasTree, Begins, Tells}
+use Rattle.separating_article.specs.ChosenSteps.{AreChosen}
 use Rattle.separating_article.specs.Growing.{Starts, Stands, IsUnderWay, Grown}
 use Rattle.separating_article.specs.Guides.{IsGuide}
 use Rattle.separating_article.specs.Sizes.{written_size}
@@ -41,25 +42,28 @@ module _ (guide : Guide) (separates : Bool) (root : Chars) (limit : ℕ) (ok : I
     start_over NoMemory started = λ tree h. tt
 
     pub start_stands : (work : Growing) → work.outer.items ≡ []
-        → IfSome (slice_get guide.first.now.elements place) (λ e. Starts guide e.0 place separates limit (Ok (work.inner, work.left))) → Begins guide separates root limit (Ok work)
-    start_stands work none started = λ tree h.
-        let t = stands_at guide.first.now root place (sym q) in
-        subst (λ (l : List Started). Stands guide limit tree work.left work.inner l) (sym none)
-        (begun guide ok limit place separates root t.0 tree t.2 h.0 work.left work.inner h.1 started)
+        → IfSome (slice_get guide.first.now.elements place) (λ e. Starts guide e.0 place separates limit (Ok (work.inner, work.left))) → AreChosen guide work.steps
+        → Begins guide separates root limit (Ok work)
+    start_stands work none started chosen = λ tree h.
+        let t = stands_at guide.first.now root place (sym q) in (
+          subst (λ (l : List Started). Stands guide limit tree work.left work.inner l) (sym none)
+              (begun guide ok limit place separates root t.0 tree t.2 h.0 work.left work.inner h.1 started),
+          chosen,
+        )
 
   pub under_way : (work : Growing) → Begins guide separates root limit (Ok work) → HasTree guide separates root → IsUnderWay guide work
-  under_way work begins h = (ok, (limit, h.0, begins h.0 h.1))
+  under_way work begins h = let b = begins h.0 h.1 in (ok, (limit, h.0, b.0), b.1)
 
   pub begun_not : (over : BuildOver) → Begins guide separates root limit (Err over) → Tells guide separates root limit (Err over)
   begun_not TextOver h = h
   begun_not NoMemory h = λ tree is. tt
 
   pub grown_over : (over : BuildOver) (work new : Growing) → Begins guide separates root limit (Ok work) → Grown guide work new (Err over) → Tells guide separates root limit (Err over)
-  grown_over TextOver work new begins g = λ tree h. g limit tree (begins tree h)
+  grown_over TextOver work new begins g = λ tree h. g limit tree (begins tree h).0
   grown_over NoMemory work new begins g = λ tree h. tt
 
   pub grown_whole : (work new : Growing) → Begins guide separates root limit (Ok work) → Grown guide work new (Ok tt) → Tells guide separates root limit (Ok new.inner.node)
   grown_whole work new begins g = λ tree h.
-      let t = g limit tree (begins tree h) in
+      let t = g limit tree (begins tree h).0 in
       let sum = t.1 in
       (t.0, (let small : written_size tree ≤ limit = omega (arith, sum) in small))

@@ -2,6 +2,7 @@ pub mod TextSizes
 pub mod ShownAtts
 pub mod Trees
 pub mod NextSteps
+pub mod FoundSteps
 pub mod Opened
 pub mod UnderWay
 pub mod Stepped

@@ -1,5 +1,5 @@
 -- An element is started with what stands beside its elements.
-use Rattle.std.proofs.Common.{◌≡◌, ◌∙◌, ℕ, ◌+◌, Bool, ◌&&◌, List, [], ◌++◌, refl, sym, ap, subst, arith, Option, Some, None, Ok, IfSome}
+use Rattle.std.proofs.Common.{◌≡◌, ◌∙◌, ℕ, ◌+◌, Bool, ◌&&◌, List, [], ◌++◌, refl, sym, ap, subst, arith, Option, Some, None, Result, Ok, IfSome, slice_get}
 use Rattle.std.specs.Prelude.{is_none, option_map, unwrap_or}
 use Rattle.content_models.specs.Model.{Chars}
 use Rattle.document_trees.specs.Trees.{Attribute, Items, Node, nothing}
@@ -7,16 +7,31 @@ use Rattle.decl_set.specs.Declarations.{Element, name_of, list_in}
 use Rattle.decl_set.specs.declared.breaks.Odd.{Odd}
 use Rattle.tree_costs.specs.Beside.{put}
 use Rattle.separating_article.specs.declared.choosing.Step.{Step}
+use Rattle.separating_article.specs.declared.fault.BuildOver.{BuildOver}
 use Rattle.separating_article.specs.declared.guide.Guide.{Guide}
+use Rattle.separating_article.specs.declared.growing.Chosen.{Chosen}
+use Rattle.separating_article.specs.declared.growing.Started.{Started}
 use Rattle.separating_article.specs.declared.opening.Way.{Way}
-use Rattle.separating_article.specs.Growing.{PutsAtts, StartsBy, begun_size}
-use Rattle.separating_article.specs.Openings.{shown, att_of, values_by, run_of, plain_front, front_of, atts_of}
+use Rattle.separating_article.specs.Growing.{PutsAtts, StartsBy, Starts, IsChosenAt, begun_size}
+use Rattle.separating_article.specs.Choosing.{next_step}
+use Rattle.separating_article.specs.Openings.{way_of, path_of, shown, att_of, values_by, run_of, plain_front, front_of, atts_of}
 use Rattle.separating_article.specs.Sizes.{atts_size, front_size, names_size}
 
 -- an element that stands at a place has its name
 pub at_name : (P : Chars → Type 0) (o : Option Element) (name : Chars) → Some name ≡ option_map name_of o → P name → IfSome o (λ e. P e.0)
 at_name P None name q h = tt
 at_name P (Some e) name q h = let same : name ≡ e.0 = cc in subst P same h
+
+-- the element at a place is started
+pub starts_at : (guide : Guide) (place : ℕ) (separates : Bool) (chosen : Chosen) (left : ℕ) (r : Result (Started × ℕ) BuildOver) → IsChosenAt guide place separates chosen
+    → StartsBy guide chosen.name.now chosen.place chosen.way chosen.step left r
+    → IfSome (slice_get guide.first.now.elements place) (λ e. Starts guide e.0 place separates left r)
+starts_at guide place separates chosen left r is h =
+    let name = chosen.name.now in
+    let placed = subst (λ (n : ℕ). StartsBy guide name n chosen.way chosen.step left r) is.at h in
+    let stepped = subst (λ (s : Option Step). StartsBy guide name place chosen.way s left r) is.step placed in
+    at_name (λ n. Starts guide n place separates left r) (slice_get guide.first.now.elements place) name is.name
+    (subst (λ (w : Way). StartsBy guide name place w (next_step guide place (path_of w)) left r) is.way stepped)
 
 none_of : {A B : Type 0} (f : A → B) (o : Option A) → is_none (option_map f o) ≡ is_none o
 none_of f None = refl

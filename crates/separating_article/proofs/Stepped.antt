@@ -6,6 +6,7 @@ use Rattle.content_models.specs.Model.{Chars}
 use Rattle.document_trees.specs.Trees.{nothing, element, elements_in}
 use Rattle.tree_costs.specs.Beside.{Front, put}
 use Rattle.separating_article.specs.Choosing.{next_step}
+use Rattle.separating_article.specs.ChosenSteps.{AreChosen}
 use Rattle.separating_article.specs.Guides.{IsGuide}
 use Rattle.separating_article.specs.Openings.{way_of, front_of}
 use Rattle.separating_article.specs.Sizes.{written_size}
@@ -43,9 +44,10 @@ put_none (Some run) = refl
 module _ (guide : Guide) where
   pub enters : (old new : Growing) (s : Step) (w : Started) → old.inner.step ≡ Some s → IsUnderWay guide old
       → IfSome (slice_get guide.first.now.elements s.place) (λ e. Starts guide e.0 s.place s.separates old.left (Ok (new.inner, new.left)))
-      → w ≡ record old.inner { step = next_step guide old.inner.place s.path } → new.outer.items ≡ old.outer.items ++ w ∷ [] → GoesOn guide old new
+      → w ≡ record old.inner { step = next_step guide old.inner.place s.path } → new.outer.items ≡ old.outer.items ++ w ∷ [] → AreChosen guide new.steps
+      → GoesOn guide old new
   unfolding done
-  enters old new s w is way started with_step behind =
+  enters old new s w is way started with_step behind chosen =
       let ok = way.0 in
       let x = entered_at guide ok way.1.0 way.1.1 old.left s old.inner old.outer.items is way.1.2 in
       let h = started_of guide s.place s.separates old.left x.0 (Ok (new.inner, new.left)) x.1 started in (
@@ -53,6 +55,7 @@ module _ (guide : Guide) where
         enter_nearer old.inner w new.inner old.outer.items new.outer.items
             (ap (λ (v : Started). elements_in v.node.items) h.0 ∙ put_none (front_of guide x.0.0 (way_of guide s.place x.0.0 s.separates)))
             (ap (λ (v : Started). elements_in v.node.items) with_step) behind,
+        chosen,
       )
 
   pub enters_over : (old new : Growing) (s : Step) (over : BuildOver) → IsGuide guide → old.inner.step ≡ Some s
@@ -66,14 +69,15 @@ module _ (guide : Guide) where
       → (x : Chars × Content) × (slice_get guide.first.now.elements s.place ≡ Some x)
   step_declared old s is way = entered_at guide way.0 way.1.0 way.1.1 old.left s old.inner old.outer.items is way.1.2
 
-  pub leaves : (old new : Growing) (more : Bool) → old.inner.step ≡ None → Leaves old new more → Steps guide old new (Ok more)
+  pub leaves : (old new : Growing) (more : Bool) → IsUnderWay guide old → old.inner.step ≡ None → Leaves old new more → Steps guide old new (Ok more)
   unfolding done
-  leaves old new true is h = (
+  leaves old new true way is h = (
     λ limit tree S. subst (λ (n : ℕ). Stands guide limit tree n new.inner new.outer.items) (sym h.3)
         (left_stands guide limit tree old.left old.inner is h.0 new.inner new.outer.items old.outer.items h.1 h.2 S),
     leave_nearer old.inner h.0 new.inner new.outer.items old.outer.items h.2 h.1,
+    subst (AreChosen guide) (sym h.4) way.2,
   )
-  leaves old new false is h =
+  leaves old new false way is h =
       λ limit tree S.
       let t = whole_is guide limit tree old.left old.inner is old.outer.items h.0 S in
       (h.1 ∙ t.0, ap (λ (n : ℕ). n + written_size tree) h.2 ∙ t.1)
@@ -98,7 +102,7 @@ module _ (guide : Guide) where
   pub loops_on : (more : Bool) (start now new : Growing) → Steps guide now new (Ok more) → Loops true start now → Loops more start new
   loops_on true start now new h k =
       let way = k.goes.1 in
-      record { goes = (λ limit tree S. h.0 limit tree (k.goes.0 limit tree S), (way.0, still now new h.0 way.1)); ends = tt }
+      record { goes = (λ limit tree S. h.0 limit tree (k.goes.0 limit tree S), (way.0, still now new h.0 way.1, h.2)); ends = tt }
   loops_on false start now new h k = record { goes = tt; ends = λ limit tree S. h limit tree (k.goes.0 limit tree S) }
 
   pub loops_start : (start : Growing) → IsUnderWay guide start → Loops true start start
@@ -115,7 +119,7 @@ module _ (guide : Guide) where
   pub loops_fall : (more : Bool) (start now new : Growing) → Steps guide now new (Ok more) → Loops true start now → left_of more new < left_of true now
   loops_fall true start now new h k =
       let way = k.goes.1 in
-      let small = done_small new (way.0, still now new h.0 way.1) in
+      let small = done_small new (way.0, still now new h.0 way.1, h.2) in
       let near = h.1 in
       omega (arith, small, near)
   loops_fall false start now new h k =

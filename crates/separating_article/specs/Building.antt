@@ -2,6 +2,7 @@
 use Rattle.std.specs.Prelude.{◌≡◌, ◌≤◌, ◌<◌, ℕ, Bool, Result, Ok, Err}
 use Rattle.content_models.specs.Model.{Chars}
 use Rattle.document_trees.specs.Trees.{Node, size}
+use Rattle.separating_article.specs.ChosenSteps.{AreChosen}
 use Rattle.separating_article.specs.Growing.{StandsIn}
 use Rattle.separating_article.specs.Paths.{IsTreeOf}
 use Rattle.separating_article.specs.Sizes.{written_size}
@@ -19,7 +20,7 @@ HasTree guide separates root = (tree : Node) × IsTree guide separates root tree
 
 -- what is started comes to the tree, or the text of the tree has too many bytes
 abbrev pub BeginsOf : Guide → ℕ → Node → Result Growing BuildOver → Type 0
-BeginsOf guide limit tree (Ok work) = StandsIn guide limit tree work
+BeginsOf guide limit tree (Ok work) = StandsIn guide limit tree work × AreChosen guide work.steps
 BeginsOf guide limit tree (Err TextOver) = limit < written_size tree
 BeginsOf guide limit tree (Err NoMemory) = Unit {0}
 

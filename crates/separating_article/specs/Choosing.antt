@@ -1,5 +1,5 @@
 -- The next step of a chosen tree, by the places of elements.
-use Rattle.std.specs.Prelude.{ℕ, Bool, false, ◌&&◌, ◌||◌, not, find, nat_lt, slice_get, Option, Some, None, option_map, option_and_then, if◌then◌else◌}
+use Rattle.std.specs.Prelude.{◌≡◌, ℕ, Bool, false, ◌&&◌, ◌||◌, not, find, nat_lt, slice_get, Option, Some, None, option_map, option_and_then, if◌then◌else◌}
 use Rattle.std.specs.Option.{option_map_or}
 use Rattle.content_models.specs.declared.content.Content.{Content}
 use Rattle.content_models.specs.Model.{Chars}
@@ -11,6 +11,7 @@ use Rattle.tree_costs.specs.declared.cost.Cost.{Cost}
 use Rattle.tree_costs.specs.declared.cost.Cost.TheVariants.{Fin}
 use Rattle.tree_costs.specs.Costs.{at_most, sum}
 use Rattle.tree_costs.specs.Leasts.{place_of}
+use Rattle.separating_article.specs.declared.choosing.Child.{Child}
 use Rattle.separating_article.specs.declared.choosing.Path.{Path}
 use Rattle.separating_article.specs.declared.choosing.Path.TheVariants.{Own, Wrong, Pair}
 use Rattle.separating_article.specs.declared.choosing.Step.{Step}
@@ -40,6 +41,14 @@ step_in o i name = option_and_then (λ a. if nat_lt i (states a) then step_on a 
 abbrev pub past_at : Guide → ℕ → ℕ → Option ℕ → Cost
 past_at guide e k (Some l) = g_at guide.book e k l
 past_at guide e k None = p_at guide.book e k
+
+-- ---- a step with the place of its element
+
+abbrev pub step_by : Child → Chars × ℕ
+step_by child = (child.name.now, child.to)
+
+abbrev pub IsPlaced : Guide → Child → Type 0
+IsPlaced guide child = child.place ≡ place_of guide.first.now child.name.now
 
 -- ---- the steps that attain what is least
 

@@ -1,10 +1,12 @@
 -- A chosen tree under way: elements that are started, inside one another, and the items that they still get.
-use Rattle.std.specs.Prelude.{◌≡◌, ◌<◌, ◌≤◌, ℕ, ◌+◌, ◌*◌, Bool, true, false, ◌&&◌, List, [], ◌∷◌, ◌++◌, slice_get, Option, Some, None, is_none, Result, Ok, Err}
+use Rattle.std.specs.Prelude.{◌≡◌, ◌<◌, ◌≤◌, ℕ, ◌+◌, ◌*◌, Bool, true, false, ◌&&◌, List, [], ◌∷◌, ◌++◌, slice_get, Option, Some, None, is_none, option_map, Result, Ok, Err}
 use Rattle.content_models.specs.declared.content.Content.{Content}
 use Rattle.content_models.specs.Model.{Chars}
 use Rattle.document_trees.specs.Trees.{Attribute, Items, nothing, element, Node, joined, elements_in, size}
 use Rattle.tree_costs.specs.Beside.{put}
+use Rattle.decl_set.specs.Declarations.{name_of}
 use Rattle.separating_article.specs.Choosing.{next_step}
+use Rattle.separating_article.specs.ChosenSteps.{AreChosen}
 use Rattle.separating_article.specs.Guides.{IsGuide}
 use Rattle.separating_article.specs.Openings.{way_of, path_of, front_of, atts_of}
 use Rattle.separating_article.specs.Paths.{IsTop, Follows}
@@ -13,6 +15,7 @@ use Rattle.separating_article.specs.declared.choosing.Step.{Step}
 use Rattle.separating_article.specs.declared.fault.BuildOver.{BuildOver}
 use Rattle.separating_article.specs.declared.fault.BuildOver.TheVariants.{TextOver, NoMemory}
 use Rattle.separating_article.specs.declared.guide.Guide.{Guide}
+use Rattle.separating_article.specs.declared.growing.Chosen.{Chosen}
 use Rattle.separating_article.specs.declared.growing.Started.{Started}
 use Rattle.separating_article.specs.declared.growing.Growing.{Growing}
 use Rattle.separating_article.specs.declared.opening.Way.{Way}
@@ -45,6 +48,13 @@ StartsBy guide name place way step left (Err NoMemory) = Unit {0}
 abbrev pub Starts : Guide → Chars → ℕ → Bool → ℕ → Result (Started × ℕ) BuildOver → Type 0
 Starts guide name place separates =
     let way = way_of guide place name separates in StartsBy guide name place way (next_step guide place (path_of way))
+
+-- the element at a place, with the way that is chosen by whether the tree separates, and its first step
+pub record IsChosenAt (guide : Guide) (place : ℕ) (separates : Bool) (chosen : Chosen) : Type 0 where
+  pub at : chosen.place ≡ place
+  pub name : Some chosen.name.now ≡ option_map name_of (slice_get guide.first.now.elements place)
+  pub way : chosen.way ≡ way_of guide place chosen.name.now separates
+  pub step : chosen.step ≡ next_step guide place (path_of chosen.way)
 
 -- ---- what is still to come
 
@@ -109,15 +119,15 @@ abbrev pub ComesTo : Guide → Growing → Type 0
 ComesTo guide work = (limit : ℕ) × (tree : Node) × StandsIn guide limit tree work
 
 abbrev pub IsUnderWay : Guide → Growing → Type 0
-IsUnderWay guide work = IsGuide guide × ComesTo guide work
+IsUnderWay guide work = IsGuide guide × ComesTo guide work × AreChosen guide work.steps
 
 -- it comes to the same tree
 abbrev pub Keeps : Guide → Growing → Growing → Type 0
 Keeps guide old new = (limit : ℕ) (tree : Node) → StandsIn guide limit tree old → StandsIn guide limit tree new
 
--- it comes to the same tree, and one step more is done
+-- it comes to the same tree, one step more is done, and the steps that were found are still those that are taken
 abbrev pub GoesOn : Guide → Growing → Growing → Type 0
-GoesOn guide old new = Keeps guide old new × (done new ≡ done old + 1)
+GoesOn guide old new = Keeps guide old new × (done new ≡ done old + 1) × AreChosen guide new.steps
 
 -- it is the tree, and so much is left of the limit
 abbrev pub IsWhole : Guide → Growing → Growing → Type 0
@@ -152,5 +162,6 @@ with_child w child = record w { node = ended w.node (element child.name child.at
 
 -- the innermost element is put into the one around it, where there is one
 abbrev pub Leaves : Growing → Growing → Bool → Type 0
-Leaves old new true = (w : Started) × (old.outer.items ≡ new.outer.items ++ w ∷ []) × (new.inner ≡ with_child w old.inner.node) × (new.left ≡ old.left)
+Leaves old new true =
+    (w : Started) × (old.outer.items ≡ new.outer.items ++ w ∷ []) × (new.inner ≡ with_child w old.inner.node) × (new.left ≡ old.left) × (new.steps ≡ old.steps)
 Leaves old new false = (old.outer.items ≡ []) × (new.inner.node ≡ old.inner.node) × (new.left ≡ old.left)

@@ -1,6 +1,7 @@
 pub mod Guides
 pub mod Paths
 pub mod Choosing
+pub mod ChosenSteps
 pub mod Openings
 pub mod Sizes
 pub mod Growing

@@ -4,7 +4,8 @@ ghost use Rattle.separating_article.specs.Building as spec;
 ghost use Rattle.separating_article.specs.Guides.{IsGuide};
 
 use crate::BuildOver;
-use crate::growing::{Growing, Started, grow, start};
+use crate::chosen_steps::ChosenSteps;
+use crate::growing::{Growing, Started, chosen_at, grow, start};
 use crate::guide::Guide;
 use document_trees::Node;
 use jats_chars::Name;
@@ -24,14 +25,19 @@ fn begun(
 {
     match guide.first.index_of(root) {
         None => unreachable!(),
-        Some(place) => match start(alloc, guide, place, separates, limit) {
-            Err(over) => Err(over),
-            Ok((inner, left)) => Ok(Growing {
-                left,
-                inner,
-                outer: Vec::new(alloc),
-            }),
-        },
+        Some(place) => {
+            let mut steps = ChosenSteps::new(alloc);
+            let chosen = chosen_at(guide, &mut steps, place, separates);
+            match start(alloc, guide, chosen, limit) {
+                Err(over) => Err(over),
+                Ok((inner, left)) => Ok(Growing {
+                    left,
+                    inner,
+                    outer: Vec::new(alloc),
+                    steps,
+                }),
+            }
+        }
     }
 }
 

@@ -1,6 +1,6 @@
 //! The next step of a chosen tree.
 
-ghost use Rattle.std.specs.Prelude.{◌≡◌, ◌≤◌, ℕ, List, option_map, slice_get};
+ghost use Rattle.std.specs.Prelude.{◌≡◌, ◌≤◌, ℕ, IfSome, List, option_map, slice_get};
 ghost use Rattle.std.specs.Option.{option_copied};
 ghost use Rattle.decl_set.specs.Steps.{steps_at};
 ghost use Rattle.separating_article.specs.Choosing as spec;
@@ -27,6 +27,15 @@ pub struct Step {
     pub place: usize,
     pub separates: bool,
     pub path: Path,
+}
+
+/// A step of a state: the name of its element, the place of that, or None where it is not declared, and the state that it
+/// leads to.
+#[derive(Clone, Copy)]
+pub struct Child<'a> {
+    pub name: &'a Name,
+    pub place: Option<usize>,
+    pub to: u32,
 }
 
 /// Whether two costs are the same.
@@ -95,65 +104,69 @@ fn past(guide: &Guide, e: usize, state: u32, other: Option<u32>) -> Cost
 }
 
 /// Whether a step attains P of the state.
-fn attains_own(guide: &Guide, e: usize, state: u32, on: &Name, to: u32) -> bool
-    requires { IsGuide guide.now }
-    ensures { result ≡ spec.attains_own guide.now e state (on.now, to) }
+fn attains_own(guide: &Guide, e: usize, state: u32, child: &Child) -> bool
+    requires guide { IsGuide guide.now }
+    requires child { spec.IsPlaced guide.now child.now }
+    ensures { result ≡ spec.attains_own guide.now e state (spec.step_by child.now) }
 {
-    let child = guide.first.index_of(on);
     is_same(
         guide.p(e, state),
-        sum(guide.m(child), guide.p(e, to), guide.cap),
+        sum(guide.m(child.place), guide.p(e, child.to), guide.cap),
     )
 }
 
 /// Whether a step attains F of the state with a child that separates.
-fn attains_here(guide: &Guide, e: usize, state: u32, on: &Name, to: u32) -> bool
-    requires { IsGuide guide.now }
-    ensures { result ≡ spec.attains_here guide.now e state (on.now, to) }
+fn attains_here(guide: &Guide, e: usize, state: u32, child: &Child) -> bool
+    requires guide { IsGuide guide.now }
+    requires child { spec.IsPlaced guide.now child.now }
+    ensures { result ≡ spec.attains_here guide.now e state (spec.step_by child.now) }
 {
-    let child = guide.first.index_of(on);
     is_same(
         guide.f(e, state),
-        sum(guide.v(child), guide.p(e, to), guide.cap),
+        sum(guide.v(child.place), guide.p(e, child.to), guide.cap),
     )
 }
 
 /// Whether a step attains F of the state with one that separates later.
-fn attains_later(guide: &Guide, e: usize, state: u32, on: &Name, to: u32) -> bool
-    requires { IsGuide guide.now }
-    ensures { result ≡ spec.attains_later guide.now e state (on.now, to) }
+fn attains_later(guide: &Guide, e: usize, state: u32, child: &Child) -> bool
+    requires guide { IsGuide guide.now }
+    requires child { spec.IsPlaced guide.now child.now }
+    ensures { result ≡ spec.attains_later guide.now e state (spec.step_by child.now) }
 {
-    let child = guide.first.index_of(on);
     is_same(
         guide.f(e, state),
-        sum(guide.m(child), guide.f(e, to), guide.cap),
+        sum(guide.m(child.place), guide.f(e, child.to), guide.cap),
     )
 }
 
 /// Whether a step attains G of the pair.
-fn attains_odd(guide: &Guide, e: usize, pair: (u32, u32), on: &Name, to: u32) -> bool
-    requires { IsGuide guide.now }
-    ensures { result ≡ spec.attains_odd guide.now e pair.0 pair.1 (on.now, to) }
+fn attains_odd(guide: &Guide, e: usize, pair: (u32, u32), child: &Child) -> bool
+    requires guide { IsGuide guide.now }
+    requires child { spec.IsPlaced guide.now child.now }
+    ensures { result ≡ spec.attains_odd guide.now e pair.0 pair.1 (spec.step_by child.now) }
 {
-    let child = guide.first.index_of(on);
-    let behind = past(guide, e, to, other_step(guide, e, pair.1, on));
+    let behind = past(
+        guide,
+        e,
+        child.to,
+        other_step(guide, e, pair.1, child.name),
+    );
     is_same(
         guide.g(e, pair.0, pair.1),
-        sum(guide.m(child), behind, guide.cap),
+        sum(guide.m(child.place), behind, guide.cap),
     )
 }
 
 /// Whether a step attains what is least.
-fn attains(guide: &Guide, e: usize, path: Path, on: &Name, to: u32) -> bool
-    requires { IsGuide guide.now }
-    ensures { result ≡ spec.attains guide.now e path (on.now, to) }
+fn attains(guide: &Guide, e: usize, path: Path, child: &Child) -> bool
+    requires guide { IsGuide guide.now }
+    requires child { spec.IsPlaced guide.now child.now }
+    ensures { result ≡ spec.attains guide.now e path (spec.step_by child.now) }
 {
     match path {
-        Path::Own(i) => attains_own(guide, e, i, on, to),
-        Path::Wrong(i) => {
-            attains_here(guide, e, i, on, to) || attains_later(guide, e, i, on, to)
-        }
-        Path::Pair(i, j) => attains_odd(guide, e, (i, j), on, to),
+        Path::Own(i) => attains_own(guide, e, i, child),
+        Path::Wrong(i) => attains_here(guide, e, i, child) || attains_later(guide, e, i, child),
+        Path::Pair(i, j) => attains_odd(guide, e, (i, j), child),
     }
 }
 
@@ -168,23 +181,51 @@ fn state_of(path: Path) -> u32
     }
 }
 
-/// The k-th step of the state at which a path stands.
-fn step_from<'a>(guide: &Guide<'a>, e: usize, path: Path, k: usize) -> Option<(&'a Name, u32)>
-    ensures { option_map {U = List ℕ × ℕ} (λ s. (s.0.now, s.1)) result ≡ slice_get (steps_at guide.now.first.now (slice_get guide.now.first.now.elements e) (spec.state_of path)) k }
+/// The k-th step of a state of the element at a place.
+fn child_from<'a>(guide: &Guide<'a>, e: usize, state: u32, k: usize) -> Option<Child<'a>>
+    ensures step { option_map {U = List ℕ × ℕ} spec.step_by result ≡ slice_get (steps_at guide.now.first.now (slice_get guide.now.first.now.elements e) state) k }
+    ensures placed { IfSome result (spec.IsPlaced guide.now) }
 {
-    guide.first.step_at(e, state_of(path), k)
+    match guide.first.child_at(e, state, k) {
+        None => None,
+        Some((Some(place), to)) => match guide.first.name_at(place) {
+            None => None,
+            Some(name) => Some(Child {
+                name,
+                place: Some(place),
+                to,
+            }),
+        },
+        Some((None, _)) => match guide.first.step_at(e, state, k) {
+            None => None,
+            Some((name, to)) => Some(Child {
+                name,
+                place: None,
+                to,
+            }),
+        },
+    }
+}
+
+/// The k-th step of the state at which a path stands.
+fn step_from<'a>(guide: &Guide<'a>, e: usize, path: Path, k: usize) -> Option<Child<'a>>
+    ensures step { option_map {U = List ℕ × ℕ} spec.step_by result ≡ slice_get (steps_at guide.now.first.now (slice_get guide.now.first.now.elements e) (spec.state_of path)) k }
+    ensures placed { IfSome result (spec.IsPlaced guide.now) }
+{
+    child_from(guide, e, state_of(path), k)
 }
 
 /// The first step that attains what is least. A state has at most 1,024 steps.
-fn first_step<'a>(guide: &Guide<'a>, e: usize, path: Path) -> Option<(&'a Name, u32)>
+fn first_step<'a>(guide: &Guide<'a>, e: usize, path: Path) -> Option<Child<'a>>
     requires { IsGuide guide.now }
-    ensures { option_map {U = List ℕ × ℕ} (λ s. (s.0.now, s.1)) result ≡ spec.first_step guide.now e path }
+    ensures step { option_map {U = List ℕ × ℕ} spec.step_by result ≡ spec.first_step guide.now e path }
+    ensures placed { IfSome result (spec.IsPlaced guide.now) }
 {
     for k in 0..1024 {
         match step_from(guide, e, path, k) {
             None => return None,
             Some(child) => {
-                if attains(guide, e, path, child.0, child.1) {
+                if attains(guide, e, path, &child) {
                     return Some(child);
                 }
             }
@@ -210,48 +251,51 @@ fn ends(guide: &Guide, e: usize, path: Path) -> bool
 }
 
 /// Whether the child of a step separates.
-fn has_wrong(guide: &Guide, e: usize, path: Path, on: &Name, to: u32) -> bool
-    requires { IsGuide guide.now }
-    ensures { result ≡ spec.has_wrong guide.now e path (on.now, to) }
+fn has_wrong(guide: &Guide, e: usize, path: Path, child: &Child) -> bool
+    requires guide { IsGuide guide.now }
+    requires child { spec.IsPlaced guide.now child.now }
+    ensures { result ≡ spec.has_wrong guide.now e path (spec.step_by child.now) }
 {
     match path {
-        Path::Wrong(i) => attains_here(guide, e, i, on, to),
+        Path::Wrong(i) => attains_here(guide, e, i, child),
         _ => false,
     }
 }
 
 /// The path behind a step.
-fn path_behind(guide: &Guide, e: usize, path: Path, on: &Name, to: u32) -> Path
-    requires { IsGuide guide.now }
-    ensures { result ≡ spec.path_behind guide.now e path (on.now, to) }
+fn path_behind(guide: &Guide, e: usize, path: Path, child: &Child) -> Path
+    requires guide { IsGuide guide.now }
+    requires child { spec.IsPlaced guide.now child.now }
+    ensures { result ≡ spec.path_behind guide.now e path (spec.step_by child.now) }
 {
     match path {
-        Path::Own(_) => Path::Own(to),
+        Path::Own(_) => Path::Own(child.to),
         Path::Wrong(i) => {
-            if attains_here(guide, e, i, on, to) {
-                Path::Own(to)
+            if attains_here(guide, e, i, child) {
+                Path::Own(child.to)
             } else {
-                Path::Wrong(to)
+                Path::Wrong(child.to)
             }
         }
-        Path::Pair(_, j) => match other_step(guide, e, j, on) {
-            Some(second) => Path::Pair(to, second),
-            None => Path::Own(to),
+        Path::Pair(_, j) => match other_step(guide, e, j, child.name) {
+            Some(second) => Path::Pair(child.to, second),
+            None => Path::Own(child.to),
         },
     }
 }
 
 /// A step on an element that is declared.
-fn taken(guide: &Guide, e: usize, path: Path, on: &Name, to: u32) -> Option<Step>
-    requires { IsGuide guide.now }
-    ensures { result ≡ spec.taken guide.now e path (on.now, to) }
+fn taken(guide: &Guide, e: usize, path: Path, child: &Child) -> Option<Step>
+    requires guide { IsGuide guide.now }
+    requires child { spec.IsPlaced guide.now child.now }
+    ensures { result ≡ spec.taken guide.now e path (spec.step_by child.now) }
 {
-    match guide.first.index_of(on) {
+    match child.place {
         None => None,
         Some(place) => Some(Step {
             place,
-            separates: has_wrong(guide, e, path, on, to),
-            path: path_behind(guide, e, path, on, to),
+            separates: has_wrong(guide, e, path, child),
+            path: path_behind(guide, e, path, child),
         }),
     }
 }
@@ -267,6 +311,6 @@ pub fn next_step(guide: &Guide, e: usize, path: Path) -> Option<Step>
     }
     match first_step(guide, e, path) {
         None => None,
-        Some((on, to)) => taken(guide, e, path, on, to),
+        Some(child) => taken(guide, e, path, &child),
     }
 }

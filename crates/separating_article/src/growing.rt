@@ -4,14 +4,17 @@ ghost use Rattle.std.specs.Prelude.{◌≡◌, ◌≤◌, ◌++◌, None, Some, 
 ghost use Rattle.document_trees.specs.Seen.{items_of};
 ghost use Rattle.document_trees.specs.Trees.{nothing};
 ghost use Rattle.tree_costs.specs.Beside.{put};
+ghost use Rattle.decl_set.specs.Declarations.{name_of};
 ghost use Rattle.separating_article.specs.Choosing.{next_step as step_of};
+ghost use Rattle.separating_article.specs.ChosenSteps.{AreChosen};
 ghost use Rattle.separating_article.specs.Growing as spec;
 ghost use Rattle.separating_article.specs.Guides.{IsGuide};
-ghost use Rattle.separating_article.specs.Openings.{path_of as path_in, run_of, shown as shown_of};
+ghost use Rattle.separating_article.specs.Openings.{path_of as path_in, run_of, shown as shown_of, way_of as way_in};
 ghost use Rattle.std.specs.Option.{option_copied};
 
 use crate::BuildOver;
-use crate::choosing::{Step, next_step};
+use crate::choosing::Step;
+use crate::chosen_steps::ChosenSteps;
 use crate::guide::Guide;
 use crate::opening::{Way, att_of, path_of, plain_front, shown, way_of};
 use crate::required::put_all;
@@ -30,13 +33,14 @@ pub struct Started {
     pub step: Option<Step>,
 }
 
-/// A tree under way: how many bytes are left for its text, the element that gets its items now, and those around it, the
-/// innermost last.
-#[derive(Debug, Drop)]
+/// A tree under way: how many bytes are left for its text, the element that gets its items now, those around it, the
+/// innermost last, and the steps that were found.
+#[derive(Drop)]
 pub struct Growing {
     pub left: u64,
     pub inner: Started,
     pub outer: Vec<Started>,
+    pub steps: ChosenSteps,
 }
 
 /// A run in front, where there is one: a plain space, else `x`.
@@ -68,12 +72,41 @@ fn bare_node(
     Ok(Node::new(name.copy(alloc)?, atts, items))
 }
 
-/// An element that is chosen this way, with its name and the place of its declaration.
+/// An element that is chosen this way, with its name, the place of its declaration, and its first step.
 #[derive(Clone, Copy)]
-struct Chosen<'a> {
-    name: &'a Name,
+pub struct Chosen<'a> {
+    pub name: &'a Name,
+    pub place: usize,
+    pub way: Way,
+    pub step: Option<Step>,
+}
+
+/// The element at a place, chosen by whether its tree separates.
+pub fn chosen_at<'a>(
+    guide: &Guide<'a>,
+    steps: &mut ChosenSteps,
     place: usize,
-    way: Way,
+    separates: bool,
+) -> Chosen<'a>
+    requires guide { IsGuide guide.now }
+    requires within { IsTrue (is_some (slice_get guide.now.first.now.elements place)) }
+    requires chosen { AreChosen guide.now steps.old }
+    ensures chosen { AreChosen guide.now steps.new }
+    ensures is { spec.IsChosenAt guide.now place separates result }
+{
+    match guide.first.name_at(place) {
+        None => unreachable!(),
+        Some(name) => {
+            let way = way_of(guide, place, name, separates);
+            let step = steps.next(guide, place, path_of(way));
+            Chosen {
+                name,
+                place,
+                way,
+                step,
+            }
+        }
+    }
 }
 
 /// Starts an element of which this is shown: takes the bytes of its tags and of what stands beside its elements, and then
@@ -87,10 +120,11 @@ fn start_shown(
 ) -> Result<(Started, u64), BuildOver>
     requires guide { IsGuide guide.now }
     requires odd { option_copied odd ≡ shown_of guide.now chosen.name.now chosen.way }
-    ensures { spec.StartsBy guide.now chosen.entry.name.now chosen.entry.place chosen.entry.way (step_of guide.now chosen.entry.place (path_in chosen.entry.way)) left result }
+    ensures { spec.StartsBy guide.now chosen.entry.name.now chosen.entry.place chosen.entry.way chosen.entry.step left result }
 {
-    let Chosen { name, place, way } = chosen;
-    let step = next_step(guide, place, path_of(way));
+    let Chosen {
+        name, place, step, ..
+    } = chosen;
     let front = plain_front(guide, name, odd);
     let left = match spend_start(left, name, front, step) {
         None => return Err(BuildOver::TextOver),
@@ -107,38 +141,17 @@ fn start_shown(
 }
 
 /// Starts an element that is chosen this way.
-fn start_by(
+pub fn start(
     alloc: Global,
     guide: &Guide,
     chosen: Chosen,
     left: u64,
 ) -> Result<(Started, u64), BuildOver>
     requires { IsGuide guide.now }
-    ensures { spec.StartsBy guide.now chosen.entry.name.now chosen.entry.place chosen.entry.way (step_of guide.now chosen.entry.place (path_in chosen.entry.way)) left result }
+    ensures { spec.StartsBy guide.now chosen.entry.name.now chosen.entry.place chosen.entry.way chosen.entry.step left result }
 {
     let odd = shown(alloc, guide, chosen.name, chosen.way)?;
     start_shown(alloc, guide, chosen, odd.as_ref(), left)
-}
-
-/// Starts the element at a place, by whether its tree separates.
-pub fn start(
-    alloc: Global,
-    guide: &Guide,
-    place: usize,
-    separates: bool,
-    left: u64,
-) -> Result<(Started, u64), BuildOver>
-    requires guide { IsGuide guide.now }
-    requires within { IsTrue (is_some (slice_get guide.now.first.now.elements place)) }
-    ensures { IfSome (slice_get guide.now.first.now.elements place) (λ e. spec.Starts guide.now e.0 place separates left result) }
-{
-    match guide.first.name_at(place) {
-        None => unreachable!(),
-        Some(name) => {
-            let way = way_of(guide, place, name, separates);
-            start_by(alloc, guide, Chosen { name, place, way }, left)
-        }
-    }
 }
 
 /// Takes a step: starts its element in the innermost one.
@@ -147,11 +160,14 @@ fn enter(alloc: Global, guide: &Guide, work: &mut Growing, step: Step) -> Result
     requires stands { spec.IsUnderWay guide.now work.old }
     ensures { spec.Enters guide.now work.old work.new result }
 {
-    let (inner, left) = match start(alloc, guide, step.place, step.separates, work.left) {
+    let left = work.left;
+    let chosen = chosen_at(guide, &mut work.steps, step.place, step.separates);
+    let (inner, left) = match start(alloc, guide, chosen, left) {
         Err(over) => return Err(over),
         Ok(started) => started,
     };
-    work.inner.step = next_step(guide, work.inner.place, step.path);
+    let place = work.inner.place;
+    work.inner.step = work.steps.next(guide, place, step.path);
     let outer = std::mem::replace(&mut work.inner, inner);
     work.outer.push(outer)?;
     work.left = left;

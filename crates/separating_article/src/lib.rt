@@ -5,11 +5,12 @@
 //! `least_article` answers; the rule itself is that of `exact_tables`.
 //!
 //! The tree is built without recursion: elements that are started stand on a stack, each with the step that comes next
-//! (`choosing`), and the bytes of its text are taken from the limit before a part is made (`spending`, `required`).
+//! (`choosing`, `chosen_steps`), and the bytes of its text are taken from the limit before a part is made (`spending`, `required`).
 //! `specs/Growing.antt` says what a tree under way still comes to, and `specs/Sizes.antt` how many bytes a text has.
 #![tactic(auto)]
 
 mod building;
+mod chosen_steps;
 mod choosing;
 mod fault;
 mod growing;

@@ -1,8 +1,7 @@
 use Rattle.std.proofs.Common.{◌∙◌, [], Ok, ap, subst}
 use Rattle.std.specs.Prelude.{unwrap_or}
 use Rattle.std.specs.Option.{option_copied}
-use Rattle.separating_article.specs.Choosing.{next_step}
-use Rattle.separating_article.specs.Growing.{PutsAtts, StartsBy}
+use Rattle.separating_article.specs.Growing.{PutsAtts}
 use Rattle.separating_article.specs.Openings.{att_of, values_by}
 use Rattle.separating_article.proofs.Starting.{all_put}
 use Rattle.separating_article.proofs.growing.start_shown.Goals as goal
@@ -11,10 +10,7 @@ pub returns : goal.returns
 returns c =
     let guide = c.args.guide.now in
     let chosen = c.args.chosen in
-    let step = c.next_step-step.result in
     let values = ap (λ o. values_by o (unwrap_or (option_copied c.atts_of-list.result) [])) c.att_of.ensures ∙ ap (λ l. values_by (att_of (option_copied c.args.odd)) (unwrap_or l [])) c.atts_of-list.ensures in
-    subst (λ s. StartsBy guide chosen.name.now chosen.place chosen.way s c.args.left (Ok (record { place = chosen.place; node = c.in_ok-node.node; step = step }, c.in-Ok.left)))
-    (c.next_step-step.ensures ∙ ap (next_step guide chosen.place) c.path_of.ensures)
-    (all_put guide chosen.name.now chosen.way chosen.place step (option_copied c.args.odd) c.plain_front-front.result c.requires.odd c.plain_front-front.ensures c.args.left c.in-Some.left
+    all_put guide chosen.name.now chosen.way chosen.place chosen.step (option_copied c.args.odd) c.plain_front-front.result c.requires.odd c.plain_front-front.ensures c.args.left c.in-Some.left
     c.in-Ok.left c.new-atts.result c.put_all.new.atts c.in_ok-node.node c.new-atts.ensures c.in-Some.ensures
-    (subst (λ v. PutsAtts c.new-atts.result c.put_all.new.atts c.in-Some.left v (Ok c.in-Ok.left)) values c.in-Ok.ensures) c.in_ok-node.ensures)
+    (subst (λ v. PutsAtts c.new-atts.result c.put_all.new.atts c.in-Some.left v (Ok c.in-Ok.left)) values c.in-Ok.ensures) c.in_ok-node.ensures
