@@ -145,12 +145,7 @@ fn attains_odd(guide: &Guide, e: usize, pair: (u32, u32), child: &Child) -> bool
     requires child { spec.IsPlaced guide.now child.now }
     ensures { result ≡ spec.attains_odd guide.now e pair.0 pair.1 (spec.step_by child.now) }
 {
-    let behind = past(
-        guide,
-        e,
-        child.to,
-        other_step(guide, e, pair.1, child.name),
-    );
+    let behind = past(guide, e, child.to, other_step(guide, e, pair.1, child.name));
     is_same(
         guide.g(e, pair.0, pair.1),
         sum(guide.m(child.place), behind, guide.cap),

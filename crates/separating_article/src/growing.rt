@@ -123,7 +123,10 @@ fn start_shown(
     ensures { spec.StartsBy guide.now chosen.entry.name.now chosen.entry.place chosen.entry.way chosen.entry.step left result }
 {
     let Chosen {
-        name, place, step, ..
+        name,
+        place,
+        step,
+        ..
     } = chosen;
     let front = plain_front(guide, name, odd);
     let left = match spend_start(left, name, front, step) {

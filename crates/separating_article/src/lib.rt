@@ -10,8 +10,8 @@
 #![tactic(auto)]
 
 mod building;
-mod chosen_steps;
 mod choosing;
+mod chosen_steps;
 mod fault;
 mod growing;
 mod guide;
