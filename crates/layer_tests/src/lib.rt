@@ -28,6 +28,8 @@ mod jats_fault_tests;
 #[cfg(test)]
 mod jats_io_tests;
 #[cfg(test)]
+mod least_trees_tests;
+#[cfg(test)]
 mod model_inclusion_tests;
 #[cfg(test)]
 mod module_reader_tests;

@@ -1,0 +1,2 @@
+pub mod LiteralPlan
+pub mod LiteralPlanned
