@@ -1,7 +1,8 @@
 #!/usr/bin/env python3
 """Makes a tag set and an article of so many megabytes, and measures `validate` and `fill` beside a validating parser.
 
-    bench/articles.py make FOLDER MEGABYTES [text]    writes set.dtd and article.xml; with `text`, long text with few tags
+    bench/articles.py make FOLDER MEGABYTES [text]     writes set.dtd and article.xml; with `text`, long text with few tags
+    bench/articles.py make FOLDER MEGABYTES house      writes a customisation in the manner of JATS, and an article of it
     bench/articles.py time FOLDER                      ratios to xmllint --valid, and to rxp where it is installed
 """
 
@@ -11,6 +12,8 @@ import subprocess
 import sys
 import time
 from pathlib import Path
+
+import customisation
 
 TOP = Path(__file__).resolve().parents[1]
 WORDS = "the of set tag text model article figure method result value table study sample effect cell".split()
@@ -73,6 +76,54 @@ def make(folder, megabytes, long):
         out.write("</body><back>" + "".join(f'<ref id="r{k}">{words(rng, 6)}</ref>' for k in range(refs)) + "</back></article>\n")
 
 
+def in_mix(k, share):
+    """The elements that the content of the k-th element of the customisation names, of those that are made: mixed, text or empty."""
+    count = 100
+    for j in range(share):
+        of_class = (k % 60 + j) % count
+        for child in (0, 1) if of_class == 0 else range(5 * of_class, 5 * of_class + 5):
+            if child % 3 != 1 or child % 12 == 5:
+                yield child
+
+
+class House:
+    """Random elements of the customisation, with some of its attributes."""
+
+    def __init__(self):
+        self.rng, self.names, self.ids = random.Random(5), customisation.names(500), 0
+
+    def attributes(self):
+        text = ""
+        if self.rng.random() < 0.3:
+            self.ids += 1
+            text += f' id="i{self.ids}"'
+        return text + (' common-0="x y"' if self.rng.random() < 0.3 else "")
+
+    def element(self, k, depth):
+        name, tag = self.names[k], self.names[k] + self.attributes()
+        if k % 12 == 5:
+            return f"<{tag}/>"
+        if k % 3 == 2:
+            return f"<{tag}>{words(self.rng, self.rng.randrange(3, 12))}</{name}>"
+        parts, inner = [words(self.rng, self.rng.randrange(2, 10))], list(in_mix(k, 18))
+        for _ in range(self.rng.randrange(1, 5) if depth > 0 else 0):
+            parts += [self.element(self.rng.choice(inner), depth - 1), words(self.rng, self.rng.randrange(2, 10))]
+        return f"<{tag}>{' '.join(parts)}</{name}>"
+
+
+def make_house(folder, megabytes):
+    folder.mkdir(parents=True, exist_ok=True)
+    customisation.write(folder, customisation.files(1))
+    house, inner, size = House(), list(in_mix(0, 18)), 0
+    with open(folder / "article.xml", "w") as out:
+        out.write(f'<!DOCTYPE {house.names[0]} SYSTEM "house.dtd">\n<{house.names[0]}>')
+        while size < megabytes * 1000000:
+            text = house.element(house.rng.choice(inner), 4) + "\n"
+            out.write(text)
+            size += len(text)
+        out.write(f"</{house.names[0]}>\n")
+
+
 def least(command, folder):
     times = []
     for _ in range(5):
@@ -85,9 +136,11 @@ def least(command, folder):
 def measure(folder):
     program = str(TOP / "tagset")
     size = (folder / "article.xml").stat().st_size / 1e6
+    house = (folder / "house.dtd").exists()
+    entry, root = (["catalog.txt", "house.dtd"], customisation.names(1)[0]) if house else (["-", "set.dtd"], "article")
     commands = {
-        "validate": [program, "validate", "-", "set.dtd", "article", "article.xml"],
-        "fill": [program, "fill", "-", "set.dtd", "article.xml"],
+        "validate": [program, "validate", *entry, root, "article.xml"],
+        "fill": [program, "fill", *entry, "article.xml"],
     }
     for name, command in (("xmllint", ["xmllint", "--huge", "--noout", "--valid", "article.xml"]), ("rxp", ["rxp", "-Vs", "article.xml"])):
         if shutil.which(name):
@@ -99,7 +152,9 @@ def measure(folder):
 
 
 def main():
-    if sys.argv[1:2] == ["make"]:
+    if sys.argv[1:2] == ["make"] and "house" in sys.argv[4:]:
+        make_house(Path(sys.argv[2]), int(sys.argv[3]))
+    elif sys.argv[1:2] == ["make"]:
         make(Path(sys.argv[2]), int(sys.argv[3]), "text" in sys.argv[4:])
     elif sys.argv[1:2] == ["time"]:
         measure(Path(sys.argv[2]))
